@@ -1,0 +1,4 @@
+pub mod Chained
+pub mod Meant
+pub mod Marked
+pub mod Shut

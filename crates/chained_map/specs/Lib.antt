@@ -1,0 +1,4 @@
+pub mod Meaning
+pub mod Opened
+pub mod Marks
+pub mod Closed

@@ -1,0 +1,2 @@
+pub mod StoppedSums
+pub mod Along

@@ -1,0 +1,5 @@
+pub mod Scales
+pub mod Blends
+pub mod Loads
+pub mod Tariffs
+pub mod Totals

@@ -1,0 +1,5 @@
+pub mod LastExits
+pub mod Pigeons
+pub mod Leasts
+pub mod Listed
+pub mod Enough

@@ -1,0 +1,10 @@
+pub mod Fills
+pub mod Tallies
+pub mod Bags
+pub mod Orders
+pub mod Traces
+pub mod Reaching
+pub mod Settling
+pub mod Relaxing
+pub mod Marking
+pub mod Turning

@@ -1,0 +1,4 @@
+pub mod Found
+pub mod Progress
+pub mod Waiting
+pub mod Turns

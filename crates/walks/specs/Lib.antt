@@ -1,0 +1,4 @@
+pub mod Digraphs
+pub mod Least
+pub mod Cutting
+pub mod Computing
