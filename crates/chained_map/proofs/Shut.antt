@@ -4,7 +4,6 @@ use mathlib.Core.List.{List, []}
 use mathlib.Core.Bool.{Bool, true, false, cond, not, _&&_}
 use mathlib.Core.Logic.{⊎-elim}
 use Prim.Native.Nat.{ℕ, zero, suc, _+_, _<_, _≤_}
-use native.Mathlib.Numerals.{add-one}
 use native.Mathlib.Omega.{arith}
 use lib.Dec.{eqb, leb, ltb}
 use Rattle.std.specs.Options.{isSome, mapped}
@@ -77,9 +76,6 @@ close-checks bs r = by (numbered (road-count bs) r) refl (marked bs .own r) refl
       let n = road-bounds (road-count bs) r e in
       let room = lt-ltb (tally (marked bs .own) (road-count bs)) (road-count bs) (tally-room (marked bs .own) (road-count bs) r (n .0) (n .1) h) in
       rw room
-
-pub tally-more : (set : ℕ → Bool) (k n : ℕ) (b : Bool) → b ≡ set (k + 1) → n ≡ tally set k → cond b 1 0 + n ≡ tally set (k + 1)
-tally-more set k n b e h = rw (e, h, add-one k)
 
 closures-path : (c d : Closures) → ((r : ℕ) → c .under r ≡ d .under r) → ((r : ℕ) → c .own r ≡ d .own r) → c .capacity ≡ d .capacity → c .finder ≡ d .finder → c ≡ d
 closures-path c d u o k f = λ i. record { under = fun-ext u i; own = fun-ext o i; capacity = k i; finder = f i }

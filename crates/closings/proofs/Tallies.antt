@@ -1,9 +1,10 @@
--- How many of 1, .., m are in a list in which no number comes twice.
+-- How many of 1, .., m are in a set, and in a list in which no number comes twice.
 use mathlib.Core.Path.{_≡_, refl, ap, _∙_}
 use mathlib.Core.Bool.{Bool, true, false, cond, not, _&&_}
 use mathlib.Core.List.{List, [], _∷_}
 use mathlib.Core.Logic.{⊎-elim}
 use Prim.Native.Nat.{ℕ, zero, suc, _+_, _≤_}
+use native.Mathlib.Numerals.{add-one}
 use native.Mathlib.Omega.{arith}
 use lib.Dec.{eqb}
 use lib.ListN.{length}
@@ -14,6 +15,10 @@ use Rattle.roads.specs.Networks.{numbered}
 use Rattle.roads.proofs.Leaving.{distinct-parts}
 use Rattle.closings.specs.Closures.{tally}
 use Rattle.closings.specs.Tables.{kept, other-road}
+
+-- one more number of a set that is counted
+pub tally-more : (set : ℕ → Bool) (k n : ℕ) (b : Bool) → b ≡ set (k + 1) → n ≡ tally set k → cond b 1 0 + n ≡ tally set (k + 1)
+tally-more set k n b e h = rw (e, h, add-one k)
 
 tally-none : (m : ℕ) → tally (λ _. false) m ≡ 0
 tally-none zero = refl

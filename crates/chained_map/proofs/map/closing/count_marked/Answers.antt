@@ -1,8 +1,8 @@
 use mathlib.Core.Path.{_≡_, sym, _∙_}
 use mathlib.Core.Bool.{true, false}
 use native.Mathlib.Omega.{arith}
+use Rattle.closings.proofs.Tallies.{tally-more}
 use Rattle.chained_map.specs.Closed.{marked}
-use Rattle.chained_map.proofs.Shut.{tally-more}
 use Rattle.chained_map.proofs.map.closing.count_marked.Needs as need
 use Rattle.chained_map.proofs.map.closing.count_marked.Needs.{then-is-marked, else-is-marked}
 
