@@ -85,7 +85,7 @@ fn push_fields(file: &mut Vec<u8>, fields: &[u16]) -> Result<(), AllocError> {
 }
 
 /// The map file of some junctions and roads.
-pub fn map_bytes(
+pub(crate) fn map_bytes(
     heap: Global,
     levels: u8,
     junctions: &[Junction],
@@ -108,7 +108,7 @@ pub fn map_bytes(
 }
 
 /// A map of n junctions and m roads, at least one of each. All roads are in the chain of junction 0, and lead back to it.
-pub fn crowded(heap: Global, n: u16, m: u16) -> Result<Vec<u8>, AllocError> {
+pub(crate) fn crowded(heap: Global, n: u16, m: u16) -> Result<Vec<u8>, AllocError> {
     let mut file = Vec::new(heap);
     push_fields(&mut file, &[n, m, 0, 0, 1])?;
     file.resize(6 + 4 * n as usize, 0)?;
@@ -147,7 +147,7 @@ fn offset(field: Field) -> u16 {
 }
 
 /// The worked map with some fields written anew.
-pub fn worked(heap: Global, changes: &[(Field, u16)]) -> Result<Vec<u8>, Fail> {
+pub(crate) fn worked(heap: Global, changes: &[(Field, u16)]) -> Result<Vec<u8>, Fail> {
     let mut file = map_bytes(heap, 1, &JUNCTIONS, &ROADS)?;
     for (field, value) in changes {
         let at = offset(*field) as usize;
@@ -160,7 +160,7 @@ pub fn worked(heap: Global, changes: &[(Field, u16)]) -> Result<Vec<u8>, Fail> {
 }
 
 /// The map of a file that has to be accepted.
-pub fn accepts(file: Vec<u8>) -> Result<ChainedMap, Fail> {
+pub(crate) fn accepts(file: Vec<u8>) -> Result<ChainedMap, Fail> {
     match ChainedMap::open(file) {
         Ok(map) => Ok(map),
         Err(refused) => Err(Fail::new(refused.fault.report())),
@@ -168,7 +168,7 @@ pub fn accepts(file: Vec<u8>) -> Result<ChainedMap, Fail> {
 }
 
 /// Checks that opening refuses a file by this number and place, and hands its bytes back as they were.
-pub fn refuses(file: Vec<u8>, number: u8, place: usize) -> Result<(), Fail> {
+pub(crate) fn refuses(file: Vec<u8>, number: u8, place: usize) -> Result<(), Fail> {
     let copy = file.clone()?;
     match ChainedMap::open(file) {
         Ok(_) => Err(Fail::new("accepted")),
