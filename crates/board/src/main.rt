@@ -1,4 +1,6 @@
 //! The board of a map: its junctions, and the roads that leave each.
+#![tactic(auto)]
+
 mod changes;
 mod rows;
 

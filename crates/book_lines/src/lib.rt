@@ -1,4 +1,6 @@
 //! The lines of the day book.
+#![tactic(auto)]
+
 mod lines;
 mod pieces;
 

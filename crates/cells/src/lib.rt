@@ -1,4 +1,6 @@
 //! Nested cells, and the search graph over them.
+#![tactic(auto)]
+
 ghost use Rattle.std.specs.Prelude.{◌≡◌, ◌-◌, ◌/◌, ◌^◌};
 
 /// The cell of a level in which a junction with this code lies.

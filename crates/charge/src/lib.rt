@@ -1,4 +1,6 @@
 //! What a road costs, and what a list of roads costs together.
+#![tactic(auto)]
+
 mod blends;
 mod charges;
 mod extras;

@@ -1,4 +1,6 @@
 //! Roads that can be closed and reopened, and a layer of closings over any roads.
+#![tactic(auto)]
+
 ghost use Rattle.std.specs.Prelude.{◌≡◌, true, false};
 ghost use Rattle.roads.specs.Faults.{reported};
 ghost use Rattle.closings.specs.Closures.{Closures, Coherent, tally, close_fault, reopen_fault, Moved, Reversible};

@@ -1,4 +1,6 @@
 //! What holds of walks and least totals, under any lawful charge. Each theorem is the contract of a function.
+#![tactic(auto)]
+
 ghost use Rattle.std.specs.Prelude.{◌≡◌, Some, None};
 ghost use Rattle.charge.specs.Blends.{blend};
 ghost use Rattle.walks.specs.Computing.{least_total};
@@ -9,35 +11,35 @@ use charge::Charge;
 
 /// Cutting the loops of a walk leaves a walk between the same ends that comes to no place twice and is not dearer.
 pub fn cut_walks_are_simple_and_not_dearer<C: Charge>() -> u8
-    ensures { CutWalks scale }
+    ensures { CutWalks C.scale }
 {
     0
 }
 
 /// A walk that comes to no place twice has fewer arcs than there are places.
 pub fn simple_walks_are_short<C: Charge>() -> u8
-    ensures { SimpleWalks scale }
+    ensures { SimpleWalks C.scale }
 {
     0
 }
 
 /// The least over short walks is the least over all walks.
 pub fn short_walks_suffice<C: Charge>() -> u8
-    ensures { ShortWalks scale }
+    ensures { ShortWalks C.scale }
 {
     0
 }
 
 /// There is at most one least total.
 pub fn least_is_unique<C: Charge>() -> u8
-    ensures { OneLeast scale }
+    ensures { OneLeast C.scale }
 {
     0
 }
 
 /// The least total is the cheapest of finitely many walks, which can be computed.
 pub fn least_is_computed<C: Charge>() -> u8
-    ensures { ComputedLeast scale }
+    ensures { ComputedLeast C.scale }
 {
     0
 }

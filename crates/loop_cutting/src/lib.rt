@@ -1,4 +1,6 @@
 //! Cutting the loops of a walk, by last exits.
+#![tactic(auto)]
+
 ghost use Rattle.std.specs.Prelude.{◌≡◌, ℕ, true, ◌++◌, map, length, drop, is_some, if◌then◌else◌, None};
 ghost use Rattle.walks.specs.Cutting.{last_exit, cut};
 ghost use Rattle.loop_cutting.specs.Exits.{exit_at, all_fit, room_for};

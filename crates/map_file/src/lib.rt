@@ -1,4 +1,6 @@
 //! The map file: its fields, and what is checked before it is read.
+#![tactic(auto)]
+
 ghost use Rattle.std.specs.Prelude.{◌≡◌, ℕ, ◌≤◌, length, IfOk, OnOk, slice_index};
 ghost use Rattle.roads.specs.Faults.{reported};
 ghost use Rattle.map_file.specs.Chains.{Tails, open_fault};

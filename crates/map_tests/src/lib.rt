@@ -1,4 +1,6 @@
 //! Tests of map files: each check of opening at its edges, and what an open map reads.
+#![tactic(auto)]
+
 #[cfg(test)]
 mod closing;
 #[cfg(test)]

@@ -1,4 +1,6 @@
 //! The roads of a district under a tariff, as graphs that can be searched.
+#![tactic(auto)]
+
 mod choice;
 mod cursor;
 mod graph;

@@ -1,4 +1,6 @@
 //! Roads by their meaning, and how a call is refused.
+#![tactic(auto)]
+
 ghost use Rattle.std.specs.Prelude.{◌≡◌, [], ◌∷◌, ◌++◌, IfOk};
 ghost use Rattle.roads.specs.RoadLists.{front};
 ghost use Rattle.roads.specs.Networks.{Network, WellFormed, next_leaving};

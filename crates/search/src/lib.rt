@@ -1,4 +1,6 @@
 //! A search for least totals over any graph, under any lawful charge.
+#![tactic(auto)]
+
 ghost use Rattle.std.specs.Prelude.{◌≡◌, ℕ, ◌<◌, min, true, false, ◌++◌, length, drop, replicate};
 ghost use Rattle.walks.specs.Digraphs.{proper};
 ghost use Rattle.search.specs.Found.{can_run, Answered, Asked};

@@ -1,4 +1,6 @@
 //! Graphs with charged arcs, walks over them, and what a least total is.
+#![tactic(auto)]
+
 ghost use Rattle.std.specs.Prelude.{◌≡◌, List, [], ◌∷◌, IfSome, MatchOption};
 ghost use Rattle.walks.specs.declared.arcs.Arc.{Arc};
 ghost use Rattle.walks.specs.Digraphs.{Digraph};

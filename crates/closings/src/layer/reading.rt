@@ -51,7 +51,7 @@ impl<B: Roads> Roads for ClosingsLayer<B> {
 
     ghost sound = { λ s.
         let w = B.Roads.meaning s.below in
-        opened-sound w (layered w (items s.table)) (B.Roads.sound s.below) };
+        opened_sound w (layered w (items s.table)) (B.Roads.sound s.below) };
 
     fn junctions(&self) -> u32 {
         self.below.junctions()

@@ -6,34 +6,34 @@ use Rattle.map_file.specs.Chains.{open_fault}
 use Rattle.map_file.proofs.Passed.{few_roads}
 use Rattle.map_file.proofs.check_into.Goals as goal
 
-pub returns-in-err-check-head : goal.returns-in-err-check-head
+pub returns-in_err-check_head : goal.returns-in_err-check_head
 unfolding open_fault
-returns-in-err-check-head c =
-    let p = err_from_is_err_and c.from-residual.result c.from-residual.ensures.1 in
-    rw (p.1, p.2) (record { told = rw (← c.in-err-check-head.ensures) refl; tails = tt })
+returns-in_err-check_head c =
+    let p = err_from_is_err_and c.from_residual.result c.from_residual.ensures.1 in
+    rw (p.1, p.2) (record { told = rw (← c.in_err-check_head.ensures) refl; tails = tt })
 
-pub returns-in-err-check-fields : goal.returns-in-err-check-fields
+pub returns-in_err-check_fields : goal.returns-in_err-check_fields
 unfolding open_fault
-returns-in-err-check-fields c =
-    let p = err_from_is_err_and c.from-residual-in-err-check-fields.result c.from-residual-in-err-check-fields.ensures.1 in
-    rw (p.1, p.2) (record { told = rw (← c.in-ok-check-head.ensures, ← c.in-err-check-fields.ensures) refl; tails = tt })
+returns-in_err-check_fields c =
+    let p = err_from_is_err_and c.from_residual-in_err-check_fields.result c.from_residual-in_err-check_fields.ensures.1 in
+    rw (p.1, p.2) (record { told = rw (← c.in_ok-check_head.ensures, ← c.in_err-check_fields.ensures) refl; tails = tt })
 
-pub check-chains-requires : goal.check-chains-requires
-check-chains-requires c =
-    let few = few_roads c.args.bytes.now (sym c.in-ok-check-head.ensures) in
+pub check_chains-requires : goal.check_chains-requires
+check_chains-requires c =
+    let few = few_roads c.args.bytes.now (sym c.in_ok-check_head.ensures) in
     record {
-      head = sym c.in-ok-check-head.ensures;
-      fields = sym c.in-ok-check-fields.ensures;
-      long = length-take-le (c.read-field-m.result + 1 - 0) c.args.tails.now (omega arith) ∙ omega arith;
-      blank = λ r h. get_or-take (c.read-field-m.result + 1 - 0) c.args.tails.now r 0 (omega arith) ∙ c.requires.blank r (omega arith);
+      head = sym c.in_ok-check_head.ensures;
+      fields = sym c.in_ok-check_fields.ensures;
+      long = length-take-le (c.read_field-m.result + 1 - 0) c.args.tails.now (omega arith) ∙ omega arith;
+      blank = λ r h. get_or-take (c.read_field-m.result + 1 - 0) c.args.tails.now r 0 (omega arith) ∙ c.requires.blank r (omega arith);
     }
 
 pub returns : goal.returns
 unfolding open_fault
 returns c =
-    let few = few_roads c.args.bytes.now (sym c.in-ok-check-head.ensures) in
-    let same : length c.check-chains.new.tails ≡ road_count c.args.bytes.now + 1 = omega (arith, c.check-chains.auto.tails, length-take-le (c.read-field-m.result + 1 - 0) c.args.tails.now (omega arith)) in
+    let few = few_roads c.args.bytes.now (sym c.in_ok-check_head.ensures) in
+    let same : length c.check_chains.new.tails ≡ road_count c.args.bytes.now + 1 = omega (arith, c.check_chains.auto.tails, length-take-le (c.read_field-m.result + 1 - 0) c.args.tails.now (omega arith)) in
     record {
-      told = rw (← c.in-ok-check-head.ensures, ← c.in-ok-check-fields.ensures) c.check-chains.ensures.told;
-      tails = IfOk-weaker c.check-chains.result _ _ (λ _ t r r0 rm. get_or_append_left c.check-chains.new.tails _ 0 r (omega arith) ∙ t r r0 rm) c.check-chains.ensures.tails;
+      told = rw (← c.in_ok-check_head.ensures, ← c.in_ok-check_fields.ensures) c.check_chains.ensures.told;
+      tails = IfOk-weaker c.check_chains.result _ _ (λ _ t r r0 rm. get_or_append_left c.check_chains.new.tails _ 0 r (omega arith) ∙ t r r0 rm) c.check_chains.ensures.tails;
     }

@@ -14,7 +14,7 @@ loop-road-preserved g c =
     let w = g.R.Roads.meaning c.args.roads.now in
     let all = w.leaving c.args.junction in
     let road = c.loop-road.road in
-    let noted = c.in-ok-road.ensures in
+    let noted = c.in_ok-road.ensures in
     let next = step w (g.met.R.Roads.sound c.args.roads.now) c.args.junction road c.loop-road.invariant.0 c.loop-road-test.true in
     rw (noted.0, next.2, noted.1)
     (next.1, append_assoc (vec_items c.loop-road.list) (road ∷ []) (past road all) ∙ ap (λ xs. vec_items c.loop-road.list ++ xs) (sym next.0) ∙ c.loop-road.invariant.1)
@@ -23,7 +23,7 @@ pub loop-road-smaller : goal.loop-road-smaller
 loop-road-smaller g c =
     let w = g.R.Roads.meaning c.args.roads.now in
     let next = step w (g.met.R.Roads.sound c.args.roads.now) c.args.junction c.loop-road.road c.loop-road.invariant.0 c.loop-road-test.true in
-    rw c.in-ok-road.ensures.0 (omega (arith, ap length next.0, ap length next.2))
+    rw c.in_ok-road.ensures.0 (omega (arith, ap length next.0, ap length next.2))
 
 pub returns : goal.returns
 returns g c =

@@ -9,8 +9,8 @@ use Rattle.search.proofs.Turning.{Laws, search_begins, can_run_start}
 use Rattle.search.proofs.search.Given as given
 use Rattle.search.proofs.search.Goals as goal
 
-laws : (g : given.Over) (graph : g.row.G.Denot) → Laws g.Charge.Charge.scale (proper (g.G.Graph.graph graph))
-laws g graph = let m = g.met.Charge.Charge in record {
+laws : (g : given.Over) (graph : g.row.G.Denot) → Laws g.G.Charge.Charge.scale (proper (g.G.Graph.graph graph))
+laws g graph = let m = g.met.G.Charge.Charge in record {
   charges = record { associative = m.associative; unit = m.unit; order = m.order; monotone = m.monotone; growing = m.growing };
   graph = proper_sound (g.G.Graph.graph graph);
 }
@@ -18,7 +18,7 @@ laws g graph = let m = g.met.Charge.Charge in record {
 pub loop-goal-init : goal.loop-goal-init
 loop-goal-init g c = (
   search_begins (laws g c.args.graph.now) c.args.frontier.now c.begin.new.self c.args.labels.now c.reset.new.labels c.places-size.result c.args.start
-      c.places-size.ensures (sym c.if-not-can-run.ensures) c.begin.ensures c.reset.ensures,
+      c.places-size.ensures (sym c.if-not-can_run.ensures) c.begin.ensures c.reset.ensures,
   c.begin.ensures.start,
   refl,
 )
@@ -30,11 +30,11 @@ loop-goal-smaller g c =
 
 pub returns : goal.returns
 returns g c =
-    let s = g.Charge.Charge.scale in
+    let s = g.G.Charge.Charge.scale in
     let graph = proper (g.G.Graph.graph c.args.graph.now) in
     let labels = c.args.labels.now in
     let start = c.args.start in
-    let can : true ≡ can_run graph.places start (length labels) = c.if-not-can-run.ensures ∙ ap (λ n. can_run n start (length labels)) c.places-size.ensures in
+    let can : true ≡ can_run graph.places start (length labels) = c.if-not-can_run.ensures ∙ ap (λ n. can_run n start (length labels)) c.places-size.ensures in
     let within : start < graph.places = can_run_start graph.places start (length labels) (sym can) in
     let e = c.turn.ensures in
     record {

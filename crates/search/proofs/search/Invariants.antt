@@ -6,7 +6,7 @@ use Rattle.search.proofs.search.Given as goal
 abbrev pub invariant-loop-goal : goal.invariant-loop-goal
 invariant-loop-goal g l =
     let graph = proper (g.G.Graph.graph l.graph) in
-    Searching g.Charge.Charge.scale graph l.frontier l.labels
+    Searching g.G.Charge.Charge.scale graph l.frontier l.labels
     × (l.frontier.start ≡ l.start)
     × (drop graph.places l.labels ≡ drop graph.places l.initial.labels)
 

@@ -3,17 +3,17 @@ use Rattle.roads.specs.Networks.{is_open}
 use Rattle.closings.specs.Closures.{tally}
 use Rattle.closings.proofs.Tallies.{tally_more}
 use Rattle.board.proofs.rows.count_open.Goals as goal
-use Rattle.board.proofs.rows.count_open.Goals.{then-is-open, else-is-open}
+use Rattle.board.proofs.rows.count_open.Goals.{then-is_open, else-is_open}
 
 pub loop-road-preserved : goal.loop-road-preserved
 loop-road-preserved g c =
     let w = g.R.Roads.meaning c.args.roads.now in
-    elim c.if-is-open.branch [
-      | then-is-open u ↦
-          let more = tally_more (λ r. is_open (w.facts r)) c.loop-road.road c.loop-road.open true (sym u.if-is-open.true ∙ c.is-open.ensures) c.loop-road.invariant.0 in
+    elim c.if-is_open.branch [
+      | then-is_open u ↦
+          let more = tally_more (λ r. is_open (w.facts r)) c.loop-road.road c.loop-road.open true (sym u.if-is_open.true ∙ c.is_open.ensures) c.loop-road.invariant.0 in
           (omega (arith, u.open-is, more), omega (arith, u.open-is))
-      | else-is-open u ↦
-          let more = tally_more (λ r. is_open (w.facts r)) c.loop-road.road c.loop-road.open false (sym u.if-is-open.false ∙ c.is-open.ensures) c.loop-road.invariant.0 in
+      | else-is_open u ↦
+          let more = tally_more (λ r. is_open (w.facts r)) c.loop-road.road c.loop-road.open false (sym u.if-is_open.false ∙ c.is_open.ensures) c.loop-road.invariant.0 in
           (omega (arith, u.open-is, more), omega (arith, u.open-is))
     ]
 

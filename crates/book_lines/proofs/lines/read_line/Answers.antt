@@ -9,4 +9,4 @@ returns-in-32 c =
     let line = c.args.line.now in
     let e : get_or line 1 0 ≡ 32 = search rules in
     let l : 2 ≤ length line = search rules in
-    c.read-fields.ensures ∙ ap (by_letter (get_or line 0 0)) (take_rest line 2) ∙ sym (reading_two line l e)
+    c.read_fields.ensures ∙ ap (by_letter (get_or line 0 0)) (take_rest line 2) ∙ sym (reading_two line l e)

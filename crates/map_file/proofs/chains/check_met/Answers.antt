@@ -10,16 +10,16 @@ use Rattle.map_file.proofs.Passed.{few_junctions}
 use Rattle.map_file.proofs.Walks.{tail_free, tail_taken}
 use Rattle.map_file.proofs.chains.check_met.Goals as goal
 
-pub returns-in-err-check-taken : goal.returns-in-err-check-taken
-returns-in-err-check-taken c =
+pub returns-in_err-check_taken : goal.returns-in_err-check_taken
+returns-in_err-check_taken c =
     let bs = c.args.bytes.now in
     let n = junction_count bs in
     let i = c.loop-i.i in
-    let p = err_from_is_err_and c.from-residual.result c.from-residual.ensures.1 in
+    let p = err_from_is_err_and c.from_residual.result c.from_residual.ensures.1 in
     let t = c.requires.tails (i + 1) (omega arith) (omega arith) in
-    let why = unless_fails _ 4 (i + 1) Map _ c.in-err-check-taken.ensures in
+    let why = unless_fails _ 4 (i + 1) Map _ c.in_err-check_taken.ensures in
     let e = tail_free bs n (i + 1) (omega (arith, few_junctions bs c.requires.head)) (rw t at (not-false _ why.0)) in
-    let f : unmet_fault (met bs n) i ≡ Some (report c.in-err-check-taken.field-0.0) = rw (e, why.1) refl in
+    let f : unmet_fault (met bs n) i ≡ Some (report c.in_err-check_taken.field-0.0) = rw (e, why.1) refl in
     rw (p.1, p.2) (sym (first_is (unmet_fault (met bs n)) i (road_count bs) _ (omega arith) c.loop-i.invariant f))
 
 pub loop-i-preserved : goal.loop-i-preserved
@@ -28,7 +28,7 @@ loop-i-preserved c =
     let n = junction_count bs in
     let i = c.loop-i.i in
     let t = c.requires.tails (i + 1) (omega arith) (omega arith) in
-    let taken = not-true _ (unless_holds _ 4 (i + 1) Map c.in-ok-check-taken.ensures) in
+    let taken = not-true _ (unless_holds _ 4 (i + 1) Map c.in_ok-check_taken.ensures) in
     let e = tail_taken bs n (i + 1) (omega (arith, few_junctions bs c.requires.head)) (rw t at taken) in
     let f : unmet_fault (met bs n) i ≡ None = rw e in
     none_more (unmet_fault (met bs n)) i c.loop-i.invariant f

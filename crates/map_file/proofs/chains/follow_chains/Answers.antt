@@ -9,11 +9,11 @@ pub loop-j-init : goal.loop-j-init
 unfolding met tail_below
 loop-j-init c = (refl, (λ r r0 rm. c.requires.blank r rm), c.requires.blank 0 (omega arith))
 
-pub returns-in-err-follow-chain : goal.returns-in-err-follow-chain
-returns-in-err-follow-chain c =
+pub returns-in_err-follow_chain : goal.returns-in_err-follow_chain
+returns-in_err-follow_chain c =
     let bs = c.args.bytes.now in
-    let p = err_from_is_err_and c.from-residual.result c.from-residual.ensures.1 in
+    let p = err_from_is_err_and c.from_residual.result c.from_residual.ensures.1 in
     rw (p.1, p.2) (record {
-      told = sym (fault_later bs c.loop-j.j (junction_count bs) _ (omega arith) (sym c.in-err-follow-chain.ensures.told));
+      told = sym (fault_later bs c.loop-j.j (junction_count bs) _ (omega arith) (sym c.in_err-follow_chain.ensures.told));
       tails = tt;
     })

@@ -35,4 +35,4 @@ pub returns : goal.returns
 returns g c =
     let w = g.R.Roads.meaning c.args.roads.now in
     let test = g.P.RoadTest.test c.args.test.now in
-    record { given = c.loop-facts.invariant ∙ ap (arcs_of w test) (from_no_road w c.loop-facts.at.road (sym c.in-default.ensures)); facts = tt }
+    record { given = c.loop-facts.invariant ∙ ap (arcs_of w test) (from_no_road w c.loop-facts.at.road (sym c.in_default.ensures)); facts = tt }

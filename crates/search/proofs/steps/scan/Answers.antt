@@ -8,8 +8,8 @@ use Rattle.search.proofs.Turning.{Laws, arc_needs, arc_done, arc_keeps, turn_end
 use Rattle.search.proofs.steps.scan.Given as given
 use Rattle.search.proofs.steps.scan.Goals as goal
 
-laws : (g : given.Over) (graph : g.row.G.Denot) → Laws g.Charge.Charge.scale (proper (g.G.Graph.graph graph))
-laws g graph = let m = g.met.Charge.Charge in record {
+laws : (g : given.Over) (graph : g.row.G.Denot) → Laws g.G.Charge.Charge.scale (proper (g.G.Graph.graph graph))
+laws g graph = let m = g.met.G.Charge.Charge in record {
   charges = record { associative = m.associative; unit = m.unit; order = m.order; monotone = m.monotone; growing = m.growing };
   graph = proper_sound (g.G.Graph.graph graph);
 }
@@ -42,13 +42,13 @@ loop-by-preserved g c =
     let graph = g.G.Graph.graph c.args.graph.now in
     let inv = c.loop-by.invariant in
     let rest = ap (those (leads graph.places c.args.place)) c.in-Some.ensures.given ∙ cond-false _ _ _ (sym c.leads.ensures ∙ c.if-leads.false) in
-    (subst (λ (l : List Arc). Scanning g.Charge.Charge.scale (proper graph) c.loop-by.frontier c.loop-by.labels c.args.place l) rest inv.0, inv.1)
+    (subst (λ (l : List Arc). Scanning g.G.Charge.Charge.scale (proper graph) c.loop-by.frontier c.loop-by.labels c.args.place l) rest inv.0, inv.1)
 
 pub returns : goal.returns
 returns g c =
     let test = leads (g.G.Graph.graph c.args.graph.now).places c.args.place in
     let inv = c.loop-by.invariant in
     record {
-      turned = turn_ends (laws g c.args.graph.now) c.loop-by.frontier c.loop-by.labels c.args.place _ inv.0 (ap (those test) c.in-default.ensures.given);
+      turned = turn_ends (laws g c.args.graph.now) c.loop-by.frontier c.loop-by.labels c.args.place _ inv.0 (ap (those test) c.in_default.ensures.given);
       kept = inv.1;
     }

@@ -6,8 +6,8 @@ use Rattle.search.proofs.Turning.{Laws, counted, turn_begins, goal_found, all_fo
 use Rattle.search.proofs.steps.turn.Given as given
 use Rattle.search.proofs.steps.turn.Goals as goal
 
-laws : (g : given.Over) (graph : g.row.G.Denot) → Laws g.Charge.Charge.scale (proper (g.G.Graph.graph graph))
-laws g graph = let m = g.met.Charge.Charge in record {
+laws : (g : given.Over) (graph : g.row.G.Denot) → Laws g.G.Charge.Charge.scale (proper (g.G.Graph.graph graph))
+laws g graph = let m = g.met.G.Charge.Charge in record {
   charges = record { associative = m.associative; unit = m.unit; order = m.order; monotone = m.monotone; growing = m.growing };
   graph = proper_sound (g.G.Graph.graph graph);
 }
@@ -15,31 +15,31 @@ laws g graph = let m = g.met.Charge.Charge in record {
 pub scan-requires : goal.scan-requires
 scan-requires g c =
     let took = c.in-Some.ensures in
-    turn_begins (laws g c.args.graph.now) c.args.frontier.now c.take-least.new.self c.args.labels.now c.in-Some.place c.requires took.0 took.1
+    turn_begins (laws g c.args.graph.now) c.args.frontier.now c.take_least.new.self c.args.labels.now c.in-Some.place c.requires took.0 took.1
 
 -- the goal is settled
-pub returns-then-is-goal : goal.returns-then-is-goal
-returns-then-is-goal g c =
+pub returns-then-is_goal : goal.returns-then-is_goal
+returns-then-is_goal g c =
     let took = c.in-Some.ensures in
     record {
       start = took.1.start;
       beyond = refl;
       on = λ e. absurd (false≢true e);
       more = λ e. absurd (false≢true e);
-      over = λ _ v h asked. goal_found (laws g c.args.graph.now) c.args.frontier.now c.take-least.new.self c.args.labels.now c.in-Some.place c.args.goal v
-          c.requires took.0 took.1 (sym c.if-is-goal.ensures) asked;
+      over = λ _ v h asked. goal_found (laws g c.args.graph.now) c.args.frontier.now c.take_least.new.self c.args.labels.now c.in-Some.place c.args.goal v
+          c.requires took.0 took.1 (sym c.if-is_goal.ensures) asked;
     }
 
 -- the search goes on
-pub returns-else-is-goal : goal.returns-else-is-goal
-returns-else-is-goal g c =
+pub returns-else-is_goal : goal.returns-else-is_goal
+returns-else-is_goal g c =
     let took = c.in-Some.ensures in
     let kept = c.scan.ensures.kept in
     record {
       start = kept.start ∙ took.1.start;
       beyond = kept.beyond;
       on = λ _. c.scan.ensures.turned;
-      more = λ _. kept.count ∙ counted (laws g c.args.graph.now) c.args.frontier.now c.take-least.new.self c.args.labels.now c.in-Some.place c.requires took.0 took.1;
+      more = λ _. kept.count ∙ counted (laws g c.args.graph.now) c.args.frontier.now c.take_least.new.self c.args.labels.now c.in-Some.place c.requires took.0 took.1;
       over = λ e. absurd (true≢false e);
     }
 
@@ -52,5 +52,5 @@ returns-in-None g c =
       beyond = refl;
       on = λ e. absurd (false≢true e);
       more = λ e. absurd (false≢true e);
-      over = λ _ v h _. all_found (laws g c.args.graph.now) c.args.frontier.now c.take-least.new.self c.args.labels.now v c.requires none.0 none.1 h;
+      over = λ _ v h _. all_found (laws g c.args.graph.now) c.args.frontier.now c.take_least.new.self c.args.labels.now v c.requires none.0 none.1 h;
     }

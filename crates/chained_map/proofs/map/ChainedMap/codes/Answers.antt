@@ -9,15 +9,15 @@ pub loop-j-preserved : goal.loop-j-preserved
 loop-j-preserved c =
     let bs = file c.args.self.now in
     let j = c.loop-j.j in
-    let read : c.code-field.result ≡ code_at bs j = rw c.as-slice-in-loop-j.ensures.value at c.code-field.ensures in
-    c.in-ok-push.ensures.items
-    ∙ ap (λ xs. xs ++ (c.code-field.result ∷ [])) c.loop-j.invariant
+    let read : c.code_field.result ≡ code_at bs j = rw c.as_slice-in-loop-j.ensures.value at c.code_field.ensures in
+    c.in_ok-push.ensures.items
+    ∙ ap (λ xs. xs ++ (c.code_field.result ∷ [])) c.loop-j.invariant
     ∙ ap (λ x. map (code_at bs) (range_with_len 0 j) ++ (x ∷ [])) read
     ∙ sym (map-range_with_len_more (code_at bs) 0 j j (omega arith))
 
 pub returns : goal.returns
 returns c =
     let bs = file c.args.self.now in
-    let n : c.junction-count-n.result ≡ junction_count bs = rw c.as-slice.ensures.value at c.junction-count-n.ensures in
+    let n : c.junction_count-n.result ≡ junction_count bs = rw c.as_slice.ensures.value at c.junction_count-n.ensures in
     let end : c.loop-j.j ≡ junction_count bs = omega (arith, n) in
     c.loop-j.invariant ∙ ap (λ k. map (code_at bs) (range_with_len 0 k)) end

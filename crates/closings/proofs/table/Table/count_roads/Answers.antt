@@ -4,10 +4,10 @@ use Rattle.closings.specs.Tables.{kept}
 use Rattle.closings.specs.Keeping.{kept_few_front, length_kept_more}
 use Rattle.closings.proofs.Tallies.{tally_kept}
 use Rattle.closings.proofs.table.Table.count_roads.Goals as goal
-use Rattle.closings.proofs.table.Table.count_roads.Goals.{then-is-road, else-is-road}
+use Rattle.closings.proofs.table.Table.count_roads.Goals.{then-is_road, else-is_road}
 
-pub overflow-add-count : goal.overflow-add-count
-overflow-add-count c =
+pub overflow_add-count : goal.overflow_add-count
+overflow_add-count c =
     let few : c.loop-i.count < 32 = omega (arith, kept_few_front (numbered c.args.m) c.args.self.now.slots c.loop-i.i (omega arith)) in
     search rules
 
@@ -15,9 +15,9 @@ pub loop-i-preserved : goal.loop-i-preserved
 loop-i-preserved c =
     let slots = c.args.self.now.slots in
     let more = length_kept_more (numbered c.args.m) slots c.loop-i.i (omega arith) in
-    elim c.if-is-road.branch [
-      | then-is-road w ↦ rw (more, sym w.if-is-road.ensures) (w.count-is ∙ ap (λ n. n + 1) c.loop-i.invariant)
-      | else-is-road w ↦ rw (more, sym w.if-is-road.ensures) (w.count-is ∙ c.loop-i.invariant)
+    elim c.if-is_road.branch [
+      | then-is_road w ↦ rw (more, sym w.if-is_road.ensures) (w.count-is ∙ ap (λ n. n + 1) c.loop-i.invariant)
+      | else-is_road w ↦ rw (more, sym w.if-is_road.ensures) (w.count-is ∙ c.loop-i.invariant)
     ]
 
 pub returns : goal.returns

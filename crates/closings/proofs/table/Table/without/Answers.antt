@@ -5,7 +5,7 @@ use Rattle.closings.specs.Tables.{items, kept, other_road}
 use Rattle.closings.specs.Keeping.{has_kept, kept_few_front, kept_more, new_at, others_without}
 use Rattle.closings.proofs.Tallies.{others_tally}
 use Rattle.closings.proofs.table.Table.without.Goals as goal
-use Rattle.closings.proofs.table.Table.without.Goals.{then-is-other-road, else-is-other-road}
+use Rattle.closings.proofs.table.Table.without.Goals.{then-is_other_road, else-is_other_road}
 
 pub push-requires : goal.push-requires
 push-requires c =
@@ -22,9 +22,9 @@ pub loop-i-preserved : goal.loop-i-preserved
 loop-i-preserved c =
     let t = c.args.self.now in
     let more = kept_more (other_road c.args.m c.args.road) t.slots c.loop-i.i (omega arith) in
-    elim c.if-is-other-road.branch [
-      | then-is-other-road w ↦ rw (more, sym w.if-is-other-road.ensures) (ap items w.table-is ∙ w.push.ensures ∙ ap (λ xs. xs ++ (get_or t.slots c.loop-i.i 0 ∷ [])) c.loop-i.invariant)
-      | else-is-other-road w ↦ rw (more, sym w.if-is-other-road.ensures) (ap items w.table-is ∙ c.loop-i.invariant)
+    elim c.if-is_other_road.branch [
+      | then-is_other_road w ↦ rw (more, sym w.if-is_other_road.ensures) (ap items w.table-is ∙ w.push.ensures ∙ ap (λ xs. xs ++ (get_or t.slots c.loop-i.i 0 ∷ [])) c.loop-i.invariant)
+      | else-is_other_road w ↦ rw (more, sym w.if-is_other_road.ensures) (ap items w.table-is ∙ c.loop-i.invariant)
     ]
 
 pub returns : goal.returns

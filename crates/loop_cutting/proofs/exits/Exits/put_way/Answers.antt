@@ -9,8 +9,8 @@ use Rattle.loop_cutting.proofs.exits.Exits.put_way.Goals as goal
 pub loop-i-init : goal.loop-i-init
 loop-i-init c = simp (sub-zero, zero-add) (refl, refl)
 
-pub put-road-requires : goal.put-road-requires
-put-road-requires c =
+pub put_road-requires : goal.put_road-requires
+put_road-requires c =
     let e = left_more (exit_at c.args.self.now) c.args.goal c.args.most c.loop-i.i c.loop-i.here c.in-Some.arc c.loop-i-test.true (sym c.in-Some.ensures) in
     omega (arith, rw e at c.loop-i.invariant.0)
 
@@ -19,7 +19,7 @@ loop-i-preserved c =
     let e = left_more (exit_at c.args.self.now) c.args.goal c.args.most c.loop-i.i c.loop-i.here c.in-Some.arc c.loop-i-test.true (sym c.in-Some.ensures) in
     let rest = follow (exit_at c.args.self.now) c.args.goal (c.args.most - (c.loop-i.i + 1)) c.in-Some.arc.head in (
       omega (arith, rw e at c.loop-i.invariant.0),
-      ap (λ way. sets way (c.loop-i.i + 1) (roads rest)) c.put-road.ensures
+      ap (λ way. sets way (c.loop-i.i + 1) (roads rest)) c.put_road.ensures
           ∙ sym (written_more c.loop-i.way c.loop-i.i c.in-Some.arc rest)
           ∙ (rw e at c.loop-i.invariant.1),
     )

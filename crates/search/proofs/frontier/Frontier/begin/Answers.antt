@@ -6,8 +6,8 @@ use Rattle.search.proofs.Fills.{fill_front}
 use Rattle.search.proofs.Marking.{begins}
 use Rattle.search.proofs.frontier.Frontier.begin.Goals as goal
 
-pub mark-seen-requires : goal.mark-seen-requires
-mark-seen-requires c =
+pub mark_seen-requires : goal.mark_seen-requires
+mark_seen-requires c =
     let f = c.args.self.now in
     let size = c.args.size in
     let start = c.args.start in
@@ -20,5 +20,5 @@ mark-seen-requires c =
 pub returns : goal.returns
 returns c =
     let f = c.args.self.now in
-    begins (cleared f c.args.size c.args.start) c.clear.new.self c.mark-seen.new.self c.args.start c.clear.ensures
-    (fill_front f.marks c.args.size c.args.start 0 0 c.requires.within) c.mark-seen.ensures
+    begins (cleared f c.args.size c.args.start) c.clear.new.self c.mark_seen.new.self c.args.start c.clear.ensures
+    (fill_front f.marks c.args.size c.args.start 0 0 c.requires.within) c.mark_seen.ensures

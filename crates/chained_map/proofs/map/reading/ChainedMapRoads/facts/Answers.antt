@@ -4,8 +4,8 @@ use Rattle.chained_map.specs.Opened.{file}
 use Rattle.chained_map.specs.Chained.{sound_head}
 use Rattle.chained_map.proofs.map.reading.ChainedMapRoads.facts.Goals as goal
 
-pub facts-at-requires : goal.facts-at-requires
-facts-at-requires c =
+pub facts_at-requires : goal.facts_at-requires
+facts_at-requires c =
     let s = c.args.self.now in
     let few = few_roads (file s) (sound_head (file s) s.sound) in
-    rw c.as-slice.ensures.value (record { long = search rules; held = s.held })
+    rw c.as_slice.ensures.value (record { long = search rules; held = s.held })

@@ -10,7 +10,7 @@ returns g c =
     let meaning = g.B.Roads.meaning in
     let w = meaning c.args.self.now.below in
     let xs = items c.args.self.now.table in
-    let told = c.in-ok-check-close.ensures in
+    let told = c.in_ok-check_close.ensures in
     record {
       told = told;
       moved = layer_closed w xs c.args.road (meaning c.add.new.self.below) (items c.add.new.self.table)

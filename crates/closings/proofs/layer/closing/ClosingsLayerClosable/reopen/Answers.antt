@@ -9,7 +9,7 @@ returns g c =
     let w = meaning c.args.self.now.below in
     let xs = items c.args.self.now.table in
     record {
-      told = c.in-ok-check-reopen.ensures;
+      told = c.in_ok-check_reopen.ensures;
       moved = layer_reopened w xs c.args.road (meaning c.remove.new.self.below) (items c.remove.new.self.table)
           (ap meaning c.remove.ensures.below) c.remove.ensures.table;
     }
