@@ -2,26 +2,25 @@
 use super::samples::*;
 use roads::Roads;
 use std::alloc::Global;
-use std::process::Abort;
+use std::test::Fail;
 
 // The worked map with some fields written anew is refused.
 fn worked_refuses(
-    rt: &impl Abort,
     heap: Global,
     changes: &[(Field, u16)],
     number: u8,
     place: usize,
 ) -> Result<(), Fail> {
-    refuses(rt, worked(rt, heap, changes)?, number, place)
+    refuses(worked(heap, changes)?, number, place)
 }
 
 // The worked map has 82 bytes.
 #[test]
 fn wrong_lengths(rt: HostRuntime) -> Result<(), Fail> {
     for length in [0, 5, 81, 83] {
-        let mut file = worked(&rt, rt.alloc(), &[])?;
+        let mut file = worked(rt.alloc(), &[])?;
         file.resize(length, 0)?;
-        refuses(&rt, file, 1, 0)?;
+        refuses(file, 1, 0)?;
     }
     Ok(())
 }
@@ -39,32 +38,30 @@ fn limits_before_length(rt: HostRuntime) -> Result<(), Fail> {
         (Field::Levels, 257, 2),
     ];
     for (field, value, number) in cases {
-        worked_refuses(&rt, rt.alloc(), &[(field, value)], number, 0)?;
+        worked_refuses(rt.alloc(), &[(field, value)], number, 0)?;
     }
     Ok(())
 }
 
 // A file is accepted, with so many junctions and roads.
-fn has_counts(rt: &impl Abort, file: Vec<u8>, junctions: u32, roads: u32) -> Result<(), Fail> {
+fn has_counts(file: Vec<u8>, junctions: u32, roads: u32) -> Result<(), Fail> {
     let map = accepts(file)?;
-    assert_eq!(rt; [map.junctions(), map.roads()], [junctions, roads]);
-    Ok(())
+    check_eq([map.junctions(), map.roads()], [junctions, roads])
 }
 
 // The length is right in each.
 #[test]
 fn least_and_most(rt: HostRuntime) -> Result<(), Fail> {
     let heap = rt.alloc();
-    has_counts(&rt, [0; 6].to_vec(heap)?, 0, 0)?;
-    has_counts(&rt, crowded(heap, 2048, 4096)?, 2048, 4096)?;
-    refuses(&rt, crowded(heap, 2049, 4096)?, 2, 0)?;
-    refuses(&rt, crowded(heap, 2048, 4097)?, 2, 0)
+    has_counts([0; 6].to_vec(heap)?, 0, 0)?;
+    has_counts(crowded(heap, 2048, 4096)?, 2048, 4096)?;
+    refuses(crowded(heap, 2049, 4096)?, 2, 0)?;
+    refuses(crowded(heap, 2048, 4097)?, 2, 0)
 }
 
 // The worked map with so many levels, and a code of junction 3.
-fn coded(rt: &impl Abort, heap: Global, levels: u16, code: u16) -> Result<Vec<u8>, Fail> {
+fn coded(heap: Global, levels: u16, code: u16) -> Result<Vec<u8>, Fail> {
     worked(
-        rt,
         heap,
         &[
             (Field::Levels, levels),
@@ -78,13 +75,10 @@ fn coded(rt: &impl Abort, heap: Global, levels: u16, code: u16) -> Result<Vec<u8
 fn codes_by_level(rt: HostRuntime) -> Result<(), Fail> {
     let heap = rt.alloc();
     for (levels, most) in [(0, 0), (1, 15), (2, 255), (3, 4095), (4, 65535)] {
-        assert_eq!(rt;
-            accepts(coded(&rt, heap, levels, most)?)?.code(3),
-            Some(most)
-        );
+        check_eq(accepts(coded(heap, levels, most)?)?.code(3), Some(most))?;
     }
     for (levels, code) in [(0, 1), (1, 16), (2, 256), (3, 4096)] {
-        refuses(&rt, coded(&rt, heap, levels, code)?, 3, 18)?;
+        refuses(coded(heap, levels, code)?, 3, 18)?;
     }
     Ok(())
 }
@@ -107,7 +101,7 @@ fn first_bad_field(rt: HostRuntime) -> Result<(), Fail> {
         (Field::Next(4), 4),
     ];
     for i in 0..10 {
-        worked_refuses(&rt, rt.alloc(), &changes[i..], 3, places[i])?;
+        worked_refuses(rt.alloc(), &changes[i..], 3, places[i])?;
     }
     Ok(())
 }
@@ -116,32 +110,14 @@ fn first_bad_field(rt: HostRuntime) -> Result<(), Fail> {
 fn broken_chains(rt: HostRuntime) -> Result<(), Fail> {
     let heap = rt.alloc();
     // loops
-    worked_refuses(&rt, heap, &[(Field::Next(1), 1)], 4, 1)?;
-    worked_refuses(&rt, heap, &[(Field::Next(3), 1)], 4, 1)?;
+    worked_refuses(heap, &[(Field::Next(1), 1)], 4, 1)?;
+    worked_refuses(heap, &[(Field::Next(3), 1)], 4, 1)?;
     // chains that meet, at 3 before they meet at 1
-    worked_refuses(&rt, heap, &[(Field::Next(2), 3)], 4, 3)?;
-    worked_refuses(
-        &rt,
-        heap,
-        &[(Field::Next(2), 3), (Field::First(3), 1)],
-        4,
-        3,
-    )?;
+    worked_refuses(heap, &[(Field::Next(2), 3)], 4, 3)?;
+    worked_refuses(heap, &[(Field::Next(2), 3), (Field::First(3), 1)], 4, 3)?;
     // 3 is met again, and 1 never
-    worked_refuses(
-        &rt,
-        heap,
-        &[(Field::First(0), 3), (Field::Next(4), 3)],
-        4,
-        3,
-    )?;
+    worked_refuses(heap, &[(Field::First(0), 3), (Field::Next(4), 3)], 4, 3)?;
     // 5 is on no chain, and then 3 neither
-    worked_refuses(&rt, heap, &[(Field::First(3), 0)], 4, 5)?;
-    worked_refuses(
-        &rt,
-        heap,
-        &[(Field::First(3), 0), (Field::Next(1), 0)],
-        4,
-        3,
-    )
+    worked_refuses(heap, &[(Field::First(3), 0)], 4, 5)?;
+    worked_refuses(heap, &[(Field::First(3), 0), (Field::Next(1), 0)], 4, 3)
 }

@@ -5,11 +5,10 @@ use roads::facts::Facts;
 use roads::fault::Refusal;
 use roads::{Roads, leaving_roads};
 use std::alloc::Global;
-use std::process::Abort;
+use std::test::Fail;
 
 // Checks the code of a junction, its first road, and its chain.
 fn has_junction(
-    rt: &impl Abort,
     map: &ChainedMap,
     heap: Global,
     junction: u32,
@@ -17,32 +16,29 @@ fn has_junction(
     first: u32,
     chain: &[u32],
 ) -> Result<(), Fail> {
-    assert_eq!(rt; map.code(junction), code);
-    assert_eq!(rt; map.first(junction), first);
-    assert_eq!(rt; leaving_roads(map, junction, heap)?.as_slice(), chain);
-    Ok(())
+    check_eq(map.code(junction), code)?;
+    check_eq(map.first(junction), first)?;
+    check_eq(leaving_roads(map, junction, heap)?.as_slice(), chain)
 }
 
 // Checks the facts of a road, and the road after it.
-fn has_road(rt: &impl Abort, map: &ChainedMap, road: u32, facts: Option<Facts>, after: u32) {
-    assert_eq!(rt; map.facts(road), facts);
-    assert_eq!(rt; map.after(road), after);
+fn has_road(map: &ChainedMap, road: u32, facts: Option<Facts>, after: u32) -> Result<(), Fail> {
+    check_eq(map.facts(road), facts)?;
+    check_eq(map.after(road), after)
 }
 
-fn has_worked_junctions(rt: &impl Abort, map: &ChainedMap, heap: Global) -> Result<(), Fail> {
-    has_junction(rt, map, heap, 0, Some(0), 1, &[1, 3])?;
-    has_junction(rt, map, heap, 1, Some(0), 2, &[2])?;
-    has_junction(rt, map, heap, 2, Some(1), 4, &[4])?;
-    has_junction(rt, map, heap, 3, Some(1), 5, &[5])?;
-    has_junction(rt, map, heap, 4, None, 0, &[])?;
-    assert_eq!(rt; map.codes(heap)?.as_slice(), &[0, 0, 1, 1]);
-    Ok(())
+fn has_worked_junctions(map: &ChainedMap, heap: Global) -> Result<(), Fail> {
+    has_junction(map, heap, 0, Some(0), 1, &[1, 3])?;
+    has_junction(map, heap, 1, Some(0), 2, &[2])?;
+    has_junction(map, heap, 2, Some(1), 4, &[4])?;
+    has_junction(map, heap, 3, Some(1), 5, &[5])?;
+    has_junction(map, heap, 4, None, 0, &[])?;
+    check_eq(map.codes(heap)?.as_slice(), &[0, 0, 1, 1])
 }
 
-fn has_worked_roads(rt: &impl Abort, map: &ChainedMap) {
-    has_road(rt, map, 0, None, 0);
+fn has_worked_roads(map: &ChainedMap) -> Result<(), Fail> {
+    has_road(map, 0, None, 0)?;
     has_road(
-        rt,
         map,
         1,
         Some(Facts {
@@ -54,9 +50,8 @@ fn has_worked_roads(rt: &impl Abort, map: &ChainedMap) {
             open: true,
         }),
         3,
-    );
+    )?;
     has_road(
-        rt,
         map,
         2,
         Some(Facts {
@@ -68,9 +63,8 @@ fn has_worked_roads(rt: &impl Abort, map: &ChainedMap) {
             open: true,
         }),
         0,
-    );
+    )?;
     has_road(
-        rt,
         map,
         3,
         Some(Facts {
@@ -82,9 +76,8 @@ fn has_worked_roads(rt: &impl Abort, map: &ChainedMap) {
             open: true,
         }),
         0,
-    );
+    )?;
     has_road(
-        rt,
         map,
         4,
         Some(Facts {
@@ -96,9 +89,8 @@ fn has_worked_roads(rt: &impl Abort, map: &ChainedMap) {
             open: true,
         }),
         0,
-    );
+    )?;
     has_road(
-        rt,
         map,
         5,
         Some(Facts {
@@ -110,22 +102,21 @@ fn has_worked_roads(rt: &impl Abort, map: &ChainedMap) {
             open: true,
         }),
         0,
-    );
-    has_road(rt, map, 6, None, 0);
+    )?;
+    has_road(map, 6, None, 0)
 }
 
 #[test]
 fn worked_map(rt: HostRuntime) -> Result<(), Fail> {
     let heap = rt.alloc();
-    let map = accepts(worked(&rt, heap, &[])?)?;
-    assert_eq!(rt;
+    let map = accepts(worked(heap, &[])?)?;
+    check_eq(
         [u32::from(map.levels()), map.junctions(), map.roads()],
-        [1, 4, 5]
-    );
-    has_worked_junctions(&rt, &map, heap)?;
-    has_worked_roads(&rt, &map);
-    assert_eq!(rt; map.into_bytes(), worked(&rt, heap, &[])?);
-    Ok(())
+        [1, 4, 5],
+    )?;
+    has_worked_junctions(&map, heap)?;
+    has_worked_roads(&map)?;
+    check_eq(map.into_bytes(), worked(heap, &[])?)
 }
 
 // The worked map has a first road m and a head n - 1 already.
@@ -133,7 +124,6 @@ fn worked_map(rt: HostRuntime) -> Result<(), Fail> {
 fn greatest_fields(rt: HostRuntime) -> Result<(), Fail> {
     let heap = rt.alloc();
     let map = accepts(worked(
-        &rt,
         heap,
         &[
             (Field::Next(4), 5),
@@ -141,10 +131,9 @@ fn greatest_fields(rt: HostRuntime) -> Result<(), Fail> {
             (Field::Mark(2), 1),
         ],
     )?)?;
-    has_junction(&rt, &map, heap, 2, Some(1), 4, &[4, 5])?;
-    has_junction(&rt, &map, heap, 3, Some(1), 0, &[])?;
+    has_junction(&map, heap, 2, Some(1), 4, &[4, 5])?;
+    has_junction(&map, heap, 3, Some(1), 0, &[])?;
     has_road(
-        &rt,
         &map,
         2,
         Some(Facts {
@@ -156,9 +145,8 @@ fn greatest_fields(rt: HostRuntime) -> Result<(), Fail> {
             open: false,
         }),
         0,
-    );
+    )?;
     has_road(
-        &rt,
         &map,
         5,
         Some(Facts {
@@ -170,12 +158,11 @@ fn greatest_fields(rt: HostRuntime) -> Result<(), Fail> {
             open: true,
         }),
         0,
-    );
-    Ok(())
+    )
 }
 
 #[test]
-fn refusal_numbers(rt: HostRuntime) {
+fn refusal_numbers() -> Result<(), Fail> {
     let refusals = [
         (Refusal::Length, 1),
         (Refusal::Limits, 2),
@@ -193,6 +180,7 @@ fn refusal_numbers(rt: HostRuntime) {
         (Refusal::Line, 14),
     ];
     for (refusal, number) in refusals {
-        assert_eq!(rt; refusal.number(), number);
+        check_eq(refusal.number(), number)?;
     }
+    Ok(())
 }

@@ -2,7 +2,7 @@
 use chained_map::{ChainedMap, RefusedMap};
 use roads::fault::{Part, Report};
 use std::alloc::{AllocError, Global};
-use std::process::Abort;
+use std::fmt::Debug;
 use std::test::Fail;
 
 #[derive(Clone, Copy)]
@@ -142,16 +142,14 @@ fn offset(field: Field) -> u16 {
 }
 
 /// The worked map with some fields written anew.
-pub(crate) fn worked(
-    rt: &impl Abort,
-    heap: Global,
-    changes: &[(Field, u16)],
-) -> Result<Vec<u8>, Fail> {
+pub(crate) fn worked(heap: Global, changes: &[(Field, u16)]) -> Result<Vec<u8>, Fail> {
     let mut file = map_bytes(heap, 1, &JUNCTIONS, &ROADS)?;
     for (field, value) in changes {
         let at = offset(*field) as usize;
         let [low, high] = value.to_le_bytes();
-        assert!(rt; at + 1 < file.len());
+        if at + 1 >= file.len() {
+            return Err(Fail::new("no such field"));
+        }
         file[at] = low;
         file[at + 1] = high;
     }
@@ -167,26 +165,28 @@ pub(crate) fn accepts(file: Vec<u8>) -> Result<ChainedMap, Fail> {
 }
 
 /// Checks that opening refuses a file by this number and place, and hands its bytes back as they were.
-pub(crate) fn refuses(
-    rt: &impl Abort,
-    file: Vec<u8>,
-    number: u8,
-    place: usize,
-) -> Result<(), Fail> {
+pub(crate) fn refuses(file: Vec<u8>, number: u8, place: usize) -> Result<(), Fail> {
     let copy = file.clone()?;
     match ChainedMap::open(file) {
         Ok(_) => Err(Fail::new("accepted")),
         Err(RefusedMap { fault, bytes }) => {
-            assert_eq!(rt;
+            check_eq(
                 fault.report(),
                 Report {
                     number,
                     place,
                     part: Part::Map,
-                }
-            );
-            assert_eq!(rt; bytes, copy);
-            Ok(())
+                },
+            )?;
+            check_eq(bytes, copy)
         }
     }
+}
+
+/// Fails where what is found is not what is wanted.
+pub(crate) fn check_eq<T: PartialEq + Debug + Drop>(found: T, wanted: T) -> Result<(), Fail> {
+    if found == wanted {
+        return Ok(());
+    }
+    Err(Fail::new(format_args!("found {found:?}, wanted {wanted:?}")))
 }
