@@ -3,7 +3,7 @@ use Rattle.std.specs.Prelude.{◌≡◌, ℕ, zero, suc, ◌+◌, ◌-◌, ◌<�
 use Rattle.std.proofs.Common.{sym, ap, ◌∙◌, add-one}
 use Rattle.std.proofs.Math.Logic.{⊎_elim}
 use native.Mathlib.Omega.{arith}
-use Rattle.std.specs.List.{AllByRecursion as All}
+use Rattle.std.specs.List.{AllByRecursion}
 use Rattle.std.proofs.lemmas.Bool.Decides.{nat_tests}
 use Rattle.std.proofs.lemmas.Bool.{cases_eq, eqb-true, ne_eqb, eq-eqb, cases_Bool, true≢false}
 use Rattle.std.proofs.lemmas.List.{length-set, length-append, length-replicate, get_or-replicate, get_or-set_other}
@@ -22,7 +22,7 @@ abbrev pub Numbered : ℕ → ℕ → Type 0
 Numbered m r = (0 < r) × (r ≤ m)
 
 -- roads of which none comes again are no more than the entries of a table that are free for them
-few : (m : ℕ) (t seen xs : List ℕ) → length t ≡ m + 1 → ((x : ℕ) → 0 < x → x ≤ m → has x seen ≡ false → slice_index t x ≡ 65535) → All (Numbered m) xs → again seen xs ≡ None → length xs ≤ free t
+few : (m : ℕ) (t seen xs : List ℕ) → length t ≡ m + 1 → ((x : ℕ) → 0 < x → x ≤ m → has x seen ≡ false → slice_index t x ≡ 65535) → AllByRecursion (Numbered m) xs → again seen xs ≡ None → length xs ≤ free t
 few m t seen [] l f a e = omega arith
 few m t seen (x ∷ xs) l f a e =
     let new : has x seen ≡ false = grind (arith, nat_tests) in
@@ -36,7 +36,7 @@ few m t seen (x ∷ xs) l f a e =
     a.1 e' in
     omega (arith, less, rest)
 
-short : (m : ℕ) (xs : List ℕ) → All (Numbered m) xs → again [] xs ≡ None → length xs ≤ m
+short : (m : ℕ) (xs : List ℕ) → AllByRecursion (Numbered m) xs → again [] xs ≡ None → length xs ≤ m
 short m xs a e =
     let full : List ℕ = replicate (m + 1) 65535 in
     let len : length full ≡ m + 1 = length-replicate (m + 1) 65535 in
@@ -82,7 +82,7 @@ distinct_right : (seen xs ys : List ℕ) → again seen (xs ++ ys) ≡ None → 
 distinct_right seen [] ys e = again_distinct seen ys e
 distinct_right seen (x ∷ xs) ys e = distinct_right (x ∷ seen) xs ys (grind (arith, nat_tests))
 
-has_all : (P : ℕ → Type 0) (xs : List ℕ) (r : ℕ) → All P xs → has r xs ≡ true → P r
+has_all : (P : ℕ → Type 0) (xs : List ℕ) (r : ℕ) → AllByRecursion P xs → has r xs ≡ true → P r
 has_all P [] r a h = absurd (grind arith)
 has_all P (x ∷ xs) r a h =
     ⊎_elim (λ (t : nat_eq r x ≡ true). rw (eqb-true r x t) a.0)
@@ -90,7 +90,7 @@ has_all P (x ∷ xs) r a h =
 
 module _ (bs : List ℕ) (fields : field_fault bs ≡ None) where
   -- the roads of a chain are numbered
-  chain_numbered : (k r : ℕ) → r ≤ road_count bs → All (Numbered (road_count bs)) (chain bs k r)
+  chain_numbered : (k r : ℕ) → r ≤ road_count bs → AllByRecursion (Numbered (road_count bs)) (chain bs k r)
   unfolding chain
   chain_numbered zero r h = tt
   chain_numbered (suc k) r h =
@@ -99,11 +99,11 @@ module _ (bs : List ℕ) (fields : field_fault bs ≡ None) where
       let p : 0 < r = omega arith in
       rw (ne_eqb r 0 ne) ((p, h), chain_numbered k (next_at bs r) (next_fits bs fields r p h))) (cases_eq r 0)
 
-  pub own_numbered : (j : ℕ) → j < junction_count bs → All (Numbered (road_count bs)) (chain_of bs j)
+  pub own_numbered : (j : ℕ) → j < junction_count bs → AllByRecursion (Numbered (road_count bs)) (chain_of bs j)
   unfolding chain_of
   own_numbered j h = chain_numbered (road_count bs + 1) (first_at bs j) (first_fits bs fields j h)
 
-  met_numbered : (j : ℕ) → j ≤ junction_count bs → All (Numbered (road_count bs)) (met bs j)
+  met_numbered : (j : ℕ) → j ≤ junction_count bs → AllByRecursion (Numbered (road_count bs)) (met bs j)
   unfolding met
   met_numbered zero h = tt
   met_numbered (suc j) h =

@@ -1,6 +1,6 @@
 -- Of the numbers below n no more than n differ, so a walk that comes to no place twice is short.
 use Rattle.std.proofs.Common.{◌≡◌, ℕ, zero, suc, ◌+◌, ◌<◌, true, false, cond, ltb, List, [], ◌∷◌, map, length, refl, ap, ⊎_elim, arith}
-use Rattle.std.specs.List.{AllByRecursion as All}
+use Rattle.std.specs.List.{AllByRecursion}
 use Rattle.std.proofs.lemmas.List.{length-map}
 use Rattle.std.proofs.lemmas.Bool.{cases_eq}
 use Rattle.std.proofs.lemmas.Bool.Decides.{nat_tests}
@@ -26,7 +26,7 @@ room_less x xs new (suc n) =
     ⊎_elim (λ (e : n ≡ x). grind (arith, nat_tests)) (λ (e : n ≡ x → ⊥). grind (arith, nat_tests)) (cases_eq n x)
 
 -- the numbers of the list and the room that is left are n together
-pigeons : (n : ℕ) (xs : List ℕ) → All (λ x. x < n) xs → distinct xs ≡ true → length xs + room xs n ≡ n
+pigeons : (n : ℕ) (xs : List ℕ) → AllByRecursion (λ x. x < n) xs → distinct xs ≡ true → length xs + room xs n ≡ n
 pigeons n [] h k = rw (room_none n) (omega arith)
 pigeons n (x ∷ xs) (h, hs) k =
     let parts = distinct_parts x xs k in
@@ -35,7 +35,7 @@ pigeons n (x ∷ xs) (h, hs) k =
     grind (arith, nat_tests)
 
 module _ {C : Type 0} (g : Digraph C) (sound : Sound g) where
-  heads_below : (a b : ℕ) (w : List Arc) → Walk g a w b → All (λ x. x < g.places) (map (λ r. r.head) w)
+  heads_below : (a b : ℕ) (w : List Arc) → Walk g a w b → AllByRecursion (λ x. x < g.places) (map (λ r. r.head) w)
   heads_below a b [] k = tt
   heads_below a b (r ∷ w) (i, k) = (sound.heads a r i, heads_below r.head b w k)
 
