@@ -1,12 +1,11 @@
 -- A mark of 0 or 1 that is written into a file which passes its checks.
-use Rattle.std.specs.Prelude.{◌≡◌, ℕ, zero, suc, ◌+◌, ◌-◌, ◌*◌, ◌<◌, ◌≤◌, Bool, true, false, cond, List, [], length, is_some, Some, None, Option, ◌==◌, ◌≢◌, slice_index, slice_index_or, slice_set}
+use Rattle.std.specs.Prelude.{◌≡◌, ℕ, zero, suc, ◌+◌, ◌-◌, ◌*◌, ◌<◌, ◌≤◌, false, List, length, is_some, None, Option, ◌==◌, ◌≢◌, slice_index, slice_index_or, slice_set}
 use Rattle.std.proofs.Math.Path.{refl}
 use Rattle.std.proofs.Common.{sym, ap, ◌∙◌, ⊎_elim, arith}
 use Rattle.std.proofs.lemmas.Bool.{cases_eq, le-leb, lt-ltb}
 use Rattle.std.proofs.lemmas.List.{length-set, get_or-set_same, get_or-set_other}
-use Rattle.roads.specs.declared.facts.Facts.{Facts}
 use Rattle.roads.specs.declared.fault.Report.{Report}
-use Rattle.roads.specs.Faults.{or_else, first_below}
+use Rattle.roads.specs.Faults.{or_else}
 use Rattle.roads.proofs.Firsts.{none_all}
 use Rattle.map_file.specs.Layout.{field, junction_count, road_count, junction_record, road_record, first_at, head_at, next_at, mark_at}
 use Rattle.map_file.specs.Checks.{head_fault, field_fault, junction_fault, road_fault, record_fault}

@@ -1,10 +1,10 @@
 -- The network that a file means: how it is read, and that it is well formed.
-use Rattle.std.specs.Prelude.{◌≡◌, ℕ, ◌+◌, ◌*◌, ◌^◌, ◌<◌, ◌≤◌, Bool, true, false, cond, ◌&&◌, List, [], is_some, Some, None, Option, nat_le, nat_lt, slice_index, refl}
+use Rattle.std.specs.Prelude.{◌≡◌, ℕ, ◌+◌, ◌^◌, ◌<◌, ◌≤◌, Bool, true, false, cond, List, [], is_some, Some, None, Option, nat_le, nat_lt, slice_index, refl}
 use Rattle.std.proofs.Common.{sym, ap, subst, ◌∙◌, ⊎_elim, arith}
-use Rattle.std.proofs.lemmas.Bool.{cases_Bool, cond-true, cond-false, le-leb, lt-leb, lt-ltb, le-ltb, leb-true, ltb-true, ltb-false, and_parts, and_from, eq-eqb, ne_eqb, eqb-true, true≢false}
+use Rattle.std.proofs.lemmas.Bool.{cases_Bool, cond-true, le-leb, lt-ltb, leb-true, ltb-true, ltb-false, and_parts, and_from, eq-eqb, ne_eqb, true≢false}
 use Rattle.roads.specs.declared.facts.Facts.{Facts}
 use Rattle.roads.specs.RoadLists.{has, distinct, front, past}
-use Rattle.roads.specs.Networks.{Network, WellFormed, numbered, leaves, next_leaving}
+use Rattle.roads.specs.Networks.{WellFormed, numbered, leaves, next_leaving}
 use Rattle.map_file.specs.Layout.{field, junction_count, road_count, first_at, next_at}
 use Rattle.map_file.specs.Chains.{chain_of, tail_at, open_fault}
 use Rattle.map_file.proofs.Passed.{few_junctions, few_roads, head_fits}

@@ -1,10 +1,9 @@
 -- A map file as closable roads: its marks say which roads are closed, and writing one closes or reopens its road.
 use Rattle.std.specs.Prelude.{◌≡◌, ℕ, zero, suc, ◌+◌, ◌<◌, ◌≤◌, Bool, true, false, cond, not, ◌&&◌, List, [], is_some, Some, None, Option, ◌==◌, nat_lt, refl}
-use Rattle.std.proofs.Common.{sym, ap, ap₂, subst, ◌∙◌, ⊎_elim, arith}
+use Rattle.std.proofs.Common.{sym, ap, ap₂, ◌∙◌, ⊎_elim, arith}
 use Rattle.std.proofs.Math.Path.{fun_ext}
 use Rattle.std.specs.Option.{option_map}
 use Rattle.std.proofs.lemmas.Bool.{cases_eq, eqb-true, eqb-false, ltb-true, lt-ltb, and_parts, true≢false}
-use Rattle.roads.specs.declared.facts.Facts.{Facts}
 use Rattle.roads.specs.declared.fault.Part.TheVariants.{Map}
 use Rattle.roads.specs.declared.fault.Report.{Report}
 use Rattle.roads.specs.Faults.{unless, or_else}

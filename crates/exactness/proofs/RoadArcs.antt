@@ -3,7 +3,7 @@ use Rattle.std.proofs.Common.{◌≡◌, ℕ, ◌<◌, ◌≤◌, Bool, true, co
 use Rattle.std.proofs.lemmas.Bool.{cond_both, cond-true, cond-false, both_ways, and_parts, eqb-true, eq-eqb, ne_eqb, leb-true, cases_eq}
 use Rattle.roads.specs.declared.facts.Facts.{Facts}
 use Rattle.roads.specs.RoadLists.{has}
-use Rattle.roads.specs.Networks.{Network, WellFormed, numbered, leaves}
+use Rattle.roads.specs.Networks.{Network, WellFormed, leaves}
 use Rattle.walks.specs.declared.arcs.Arc.{Arc}
 use Rattle.walks.specs.Digraphs.{In}
 use Rattle.cells.specs.RoadGraphs.{road_arc, arcs_of}

@@ -1,5 +1,5 @@
 -- Every walk of the search graph opens into an open walk of the same total, and so the least totals agree.
-use Rattle.std.proofs.Common.{◌≡◌, ℕ, true, ◌⊎◌, ◌↔◌, List, [], ◌∷◌, ◌++◌, is_some, Some, None, Option, unwrap_or, sym, refl, ap, ◌∙◌, ap₂, ⊎_elim}
+use Rattle.std.proofs.Common.{◌≡◌, ℕ, true, ◌↔◌, List, [], ◌∷◌, ◌++◌, is_some, Some, None, Option, unwrap_or, sym, refl, ap, ◌∙◌, ap₂, ⊎_elim}
 use Rattle.std.proofs.lemmas.Bool.{and_parts, both_ways}
 use Rattle.roads.specs.declared.facts.Facts.{Facts}
 use Rattle.roads.specs.Networks.{Network, WellFormed}

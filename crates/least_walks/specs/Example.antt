@@ -1,5 +1,5 @@
 -- Five places in two parts, with parallel arcs and an arc that leads nowhere else.
-use Rattle.std.specs.Prelude.{ℕ, cond, List, [], ◌∷◌, slice_index, slice_index_or}
+use Rattle.std.specs.Prelude.{ℕ, [], ◌∷◌, slice_index, slice_index_or}
 use Rattle.walks.specs.declared.arcs.Arc.{Arc}
 use Rattle.walks.specs.Digraphs.{Digraph}
 

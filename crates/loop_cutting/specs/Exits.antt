@@ -1,7 +1,6 @@
 -- For each place the arc that left it last.
 use Rattle.std.specs.Prelude.{ℕ, ◌-◌, Bool, true, cond, ◌&&◌, List, [], ◌∷◌, length, Some, None, Option, ◌==◌, nat_le, nat_lt, slice_index}
 use Rattle.walks.specs.declared.arcs.Arc.{Arc}
-use Rattle.walks.specs.Cutting.{follow, cut}
 use Rattle.loop_cutting.specs.declared.exits.Exits.{Exits}
 
 -- a head is kept as its number and one more, so that 0 says that there is none

@@ -1,8 +1,8 @@
 -- A cursor goes through a leaving list from its front, each road by the one before.
-use Rattle.std.proofs.Common.{◌≡◌, ℕ, suc, Bool, true, false, cond, List, [], ◌∷◌, length, is_some, Some, None, Option, sym, refl, ap, ◌∙◌, ⊎_elim, arith}
+use Rattle.std.proofs.Common.{◌≡◌, ℕ, Bool, true, false, cond, List, [], ◌∷◌, is_some, Some, None, Option, sym, refl, ap, ◌∙◌, ⊎_elim}
 use Rattle.std.proofs.lemmas.Bool.{cases_eq, eqb-true, true≢false}
 use Rattle.roads.specs.declared.facts.Facts.{Facts}
-use Rattle.roads.specs.RoadLists.{has, front, past}
+use Rattle.roads.specs.RoadLists.{front, past}
 use Rattle.roads.specs.Networks.{Network, WellFormed, leaves, next_leaving}
 use Rattle.roads.proofs.Leaving.{onward, onward_front, onward_here, onward_next, leaving_no_zero, done}
 use Rattle.cells.specs.RoadGraphs.{road_arc, arcs_of}

@@ -1,5 +1,5 @@
 -- What a cursor over the roads that leave a junction has yet to give.
-use Rattle.std.specs.Prelude.{ℕ, Bool, List, [], ◌∷◌, Some, None, Option, slice_index}
+use Rattle.std.specs.Prelude.{ℕ, Bool, List, [], ◌∷◌, Some, None, slice_index}
 use Rattle.roads.specs.declared.facts.Facts.{Facts}
 use Rattle.roads.specs.RoadLists.{past}
 use Rattle.roads.specs.Networks.{Network}

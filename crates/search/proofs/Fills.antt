@@ -1,5 +1,5 @@
 -- What stands in a list that is filled from its front.
-use Rattle.std.proofs.Common.{◌≡◌, ℕ, ◌+◌, ◌<◌, ◌≤◌, min, List, [], ◌∷◌, ◌++◌, length, get_or, drop, set, replicate, sym, refl, ap, ◌∙◌, ⊎_elim, arith}
+use Rattle.std.proofs.Common.{◌≡◌, ℕ, ◌+◌, ◌<◌, min, List, [], ◌∷◌, ◌++◌, length, get_or, drop, set, replicate, sym, ap, ◌∙◌, ⊎_elim, arith}
 use Rattle.std.proofs.lemmas.List.{append_assoc, drop_all, drop_more, get_or_append_left, get_or_past, get_or-replicate, length-replicate, replicate_more, set_at}
 use Rattle.std.proofs.lemmas.Bool.{cases_lt}
 use Rattle.search.specs.declared.frontier.Frontier.{Frontier}

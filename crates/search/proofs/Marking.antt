@@ -1,12 +1,12 @@
 -- What the frontier's steps change.
-use Rattle.std.proofs.Common.{◌≡◌, ℕ, ◌+◌, ◌-◌, ◌<◌, ◌≤◌, Bool, true, false, cond, not, ◌||◌, eqb, ◌≢◌, List, length, get_or, drop, set, sym, refl, ap, ◌∙◌, subst, inl, inr, ⊎_elim, arith}
+use Rattle.std.proofs.Common.{◌≡◌, ℕ, ◌<◌, ◌≤◌, true, eqb, List, length, get_or, set, sym, refl, ap, ◌∙◌, subst, inr, ⊎_elim, arith}
 use Rattle.std.proofs.lemmas.List.{get_or-set_same, get_or-set_other, drop-set-lt}
 use Rattle.std.proofs.lemmas.Bool.{eqb-true, not-true, or_cases}
 use Rattle.charge.specs.Scales.{Scale}
 use Rattle.walks.specs.declared.arcs.Arc.{Arc}
 use Rattle.search.specs.declared.frontier.Frontier.{Frontier}
-use Rattle.search.specs.Found.{mark_of, arc_into}
-use Rattle.search.specs.Progress.{state, First, Relabelled}
+use Rattle.search.specs.Found.{mark_of}
+use Rattle.search.specs.Progress.{state, First}
 use Rattle.search.specs.Waiting.{queued, pushed, improved, taken, recorded, seen_mark, Bag, Marked}
 use Rattle.search.specs.Turns.{Offered}
 use Rattle.search.proofs.Bags.{one_more, one_less}

@@ -1,15 +1,15 @@
 -- No walk is cheaper than the labels say.
-use Rattle.std.proofs.Common.{◌≡◌, ℕ, ◌<◌, ◌≤◌, true, false, cond, ◌≢◌, ◌⊎◌, List, [], ◌∷◌, get_or, Some, None, Option, sym, refl, ap, ◌∙◌, subst, inl, inr, ⊎_elim, arith}
+use Rattle.std.proofs.Common.{◌≡◌, ℕ, ◌<◌, ◌≤◌, true, cond, ◌≢◌, ◌⊎◌, List, [], ◌∷◌, get_or, Some, None, sym, subst, inl, inr, ⊎_elim, arith}
 use Rattle.std.proofs.lemmas.Bool.{cases_eq, eq-eqb, ne_eqb, eqb-true}
 use Rattle.charge.specs.Scales.{Scale}
 use Rattle.walks.specs.declared.arcs.Arc.{Arc}
 use Rattle.walks.specs.Digraphs.{Digraph, In, Sound, Walk, cost}
 use Rattle.walks.specs.Least.{Least}
 use Rattle.search.specs.declared.frontier.Frontier.{Frontier}
-use Rattle.search.specs.Found.{mark_of, arc_into, settled, found, back, Answered}
-use Rattle.search.specs.Progress.{State, state, Leads, Core, Outer, Inner}
-use Rattle.search.proofs.Orders.{Lawful, leq_refl, neutral_first}
-use Rattle.search.proofs.Traces.{Traced, traced}
+use Rattle.search.specs.Found.{mark_of, back, Answered}
+use Rattle.search.specs.Progress.{State, state, Core, Outer, Inner}
+use Rattle.search.proofs.Orders.{Lawful, neutral_first}
+use Rattle.search.proofs.Traces.{traced}
 
 -- v is settled with a label not dearer than x, or x is far out
 abbrev At : {C : Type 0} → Scale C → Digraph C → State C → (C → Type 0) → ℕ → C → Type 0

@@ -1,10 +1,10 @@
 -- What holds as an arc of the place that was settled last is dealt with.
-use Rattle.std.proofs.Common.{◌≡◌, ℕ, zero, suc, ◌+◌, ◌<◌, ◌≤◌, Bool, true, false, cond, eqb, ◌≢◌, ◌⊎◌, List, [], ◌∷◌, sym, refl, ap, ◌∙◌, subst, inl, inr, ⊎_elim, arith}
-use Rattle.std.proofs.lemmas.Bool.{cases_eq, both_ways, eq-eqb, ne_eqb, eqb-true, eqb-false, cond_both, cond-true, cond-false}
+use Rattle.std.proofs.Common.{◌≡◌, ℕ, zero, suc, ◌<◌, true, cond, eqb, ◌≢◌, ◌⊎◌, List, ◌∷◌, sym, refl, ap, ◌∙◌, subst, inl, inr, ⊎_elim, arith}
+use Rattle.std.proofs.lemmas.Bool.{cases_eq, both_ways, eq-eqb, ne_eqb, eqb-false, cond_both}
 use Rattle.charge.specs.Scales.{Scale}
 use Rattle.walks.specs.declared.arcs.Arc.{Arc}
 use Rattle.walks.specs.Digraphs.{Digraph, In, Sound}
-use Rattle.search.specs.Progress.{State, Leads, Recorded, Core, Fine, Inner, Passed, Relabelled, Relaxed, tally}
+use Rattle.search.specs.Progress.{State, Leads, Recorded, Core, Fine, Inner, Relabelled, Relaxed, tally}
 use Rattle.search.proofs.Orders.{Lawful, leq_refl, neutral_first}
 use Rattle.search.proofs.Tallies.{tally_same}
 

@@ -1,10 +1,9 @@
 -- How a search begins, and what holds as a place is settled and as its arcs are done.
-use Rattle.std.proofs.Common.{◌≡◌, ℕ, zero, suc, ◌+◌, ◌<◌, ◌≤◌, true, false, ◌≢◌, ◌⊎◌, List, [], sym, refl, ap, ◌∙◌, subst, inl, inr, ⊎_elim, arith}
+use Rattle.std.proofs.Common.{◌≡◌, ℕ, ◌+◌, ◌<◌, true, ◌≢◌, ◌⊎◌, [], sym, ap, ◌∙◌, subst, inl, inr, ⊎_elim, arith}
 use Rattle.std.proofs.lemmas.Bool.{cases_eq}
 use Rattle.charge.specs.Scales.{Scale}
-use Rattle.walks.specs.declared.arcs.Arc.{Arc}
 use Rattle.walks.specs.Digraphs.{Digraph, In}
-use Rattle.search.specs.Progress.{State, Leads, Recorded, Core, Fine, Outer, Inner, First}
+use Rattle.search.specs.Progress.{State, Fine, Outer, Inner, First}
 use Rattle.search.proofs.Orders.{Lawful, leq_refl}
 
 module _ {C : Type 0} (s : Scale C) (laws : Lawful s) (g : Digraph C) where

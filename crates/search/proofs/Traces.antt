@@ -1,5 +1,5 @@
 -- The records lead back along a walk that has the label for its total.
-use Rattle.std.proofs.Common.{◌≡◌, ℕ, zero, suc, ◌+◌, ◌<◌, ◌≤◌, cond, eqb, ◌≢◌, List, [], ◌∷◌, ◌++◌, length, get_or, sym, refl, ap, ◌∙◌, subst, arith}
+use Rattle.std.proofs.Common.{◌≡◌, ℕ, zero, suc, ◌<◌, ◌≤◌, eqb, ◌≢◌, List, [], ◌∷◌, ◌++◌, length, get_or, sym, refl, ap, ◌∙◌, subst, arith}
 use Rattle.std.proofs.lemmas.List.{length_push}
 use Rattle.std.proofs.lemmas.Bool.{eq-eqb, ne_eqb, cond-true, cond-false}
 use Rattle.charge.specs.Scales.{Scale}
@@ -7,7 +7,7 @@ use Rattle.walks.specs.declared.arcs.Arc.{Arc}
 use Rattle.walks.specs.Digraphs.{Digraph, In, Walk, cost}
 use Rattle.search.specs.declared.frontier.Frontier.{Frontier}
 use Rattle.search.specs.Found.{mark_of, arc_into, back}
-use Rattle.search.specs.Progress.{State, state, Leads, Core}
+use Rattle.search.specs.Progress.{state, Leads, Core}
 use Rattle.search.proofs.Orders.{Lawful}
 
 -- a list of arcs is a walk to v with the label of v for its total

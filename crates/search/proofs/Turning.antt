@@ -1,5 +1,5 @@
 -- The turns of a search, in the values that the code holds.
-use Rattle.std.proofs.Common.{◌≡◌, ℕ, ◌+◌, ◌<◌, ◌≤◌, true, false, ltb, leb, ◌≢◌, List, [], ◌∷◌, ◌++◌, length, get_or, drop, set, replicate, Some, None, Option, sym, refl, ap, ◌∙◌, subst, inl, inr, ⊎_elim, arith}
+use Rattle.std.proofs.Common.{◌≡◌, ℕ, ◌+◌, ◌<◌, ◌≤◌, true, ltb, leb, ◌≢◌, List, [], ◌∷◌, length, get_or, drop, set, Some, None, Option, sym, refl, ap, ◌∙◌, subst, inl, ⊎_elim, arith}
 use Rattle.std.proofs.lemmas.List.{get_or-set_same, length-set}
 use Rattle.std.proofs.lemmas.Bool.{cases_eq, and_parts, eqb-true, leb-true, ltb-true, false≢true}
 use Rattle.charge.specs.Scales.{Scale}
@@ -7,8 +7,8 @@ use Rattle.walks.specs.declared.arcs.Arc.{Arc}
 use Rattle.walks.specs.Digraphs.{Digraph, In, Sound}
 use Rattle.search.specs.declared.frontier.Frontier.{Frontier}
 use Rattle.search.specs.Found.{can_run, mark_of, arc_into, Answered, Asked}
-use Rattle.search.specs.Progress.{State, state, First, Outer, Inner, Relaxed}
-use Rattle.search.specs.Waiting.{Bag, Marked, cleared}
+use Rattle.search.specs.Progress.{state, First, Outer, Inner, Relaxed}
+use Rattle.search.specs.Waiting.{Marked, cleared}
 use Rattle.search.specs.Turns.{is_goal, settled_count, Searching, Scanning, Offered, Kept}
 use Rattle.search.proofs.Orders.{Lawful}
 use Rattle.search.proofs.Fills.{fill_front}

@@ -4,7 +4,7 @@ use Rattle.charge.specs.Scales.{Scale}
 use Rattle.walks.specs.declared.arcs.Arc.{Arc}
 use Rattle.search.specs.declared.frontier.Frontier.{Frontier}
 use Rattle.search.specs.Found.{mark_of}
-use Rattle.search.specs.Progress.{State, state, tally, First}
+use Rattle.search.specs.Progress.{state, tally, First}
 
 abbrev pub queued : Frontier → ℕ → ℕ
 queued f i = slice_index f.queue i

@@ -1,5 +1,5 @@
 use Rattle.std.proofs.Common.{◌≡◌, [], ◌∷◌, ◌++◌, length, vec_items, sym, refl, ap, ◌∙◌, append_assoc, append-nil, arith}
-use Rattle.roads.specs.RoadLists.{front, past}
+use Rattle.roads.specs.RoadLists.{past}
 use Rattle.roads.proofs.Leaving.{onward, onward_front, step, done}
 use Rattle.roads.proofs.leaving_roads.Goals as goal
 

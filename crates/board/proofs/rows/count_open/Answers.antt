@@ -1,4 +1,4 @@
-use Rattle.std.proofs.Common.{◌≡◌, ◌+◌, ◌-◌, true, false, sym, refl, ap, ◌∙◌, arith}
+use Rattle.std.proofs.Common.{◌≡◌, true, false, sym, ap, ◌∙◌, arith}
 use Rattle.roads.specs.Networks.{is_open}
 use Rattle.closings.specs.Closures.{tally}
 use Rattle.closings.proofs.Tallies.{tally_more}

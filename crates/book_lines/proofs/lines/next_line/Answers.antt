@@ -1,4 +1,4 @@
-use Rattle.std.proofs.Common.{◌≡◌, [], length, drop, unwrap_or, sym, ap, ◌∙◌, arith}
+use Rattle.std.proofs.Common.{[], length, unwrap_or, sym, ap, ◌∙◌, arith}
 use Rattle.std.proofs.lemmas.List.{take_rest, drop_all}
 use Rattle.book_lines.proofs.Cuts.{before_all, behind_less}
 use Rattle.book_lines.proofs.lines.next_line.Goals as goal

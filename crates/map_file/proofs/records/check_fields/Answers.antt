@@ -1,4 +1,3 @@
-use Rattle.std.proofs.Common.{◌≡◌, sym}
 use Rattle.std.proofs.lemmas.Result.{err_from_is_err_and}
 use Rattle.map_file.specs.Checks.{field_fault}
 use Rattle.map_file.proofs.records.check_fields.Goals as goal

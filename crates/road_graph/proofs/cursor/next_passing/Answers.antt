@@ -1,7 +1,7 @@
-use Rattle.std.proofs.Common.{◌≡◌, true, false, ◌∷◌, length, sym, refl, ap, ◌∙◌, arith}
+use Rattle.std.proofs.Common.{◌≡◌, true, false, ◌∷◌, length, sym, ap, ◌∙◌, arith}
 use Rattle.std.proofs.lemmas.Bool.{cond-true, cond-false}
 use Rattle.cells.specs.RoadGraphs.{arcs_of, road_arc}
-use Rattle.road_graph.specs.Cursors.{roads_from, arcs_from}
+use Rattle.road_graph.specs.Cursors.{arcs_from}
 use Rattle.road_graph.proofs.Onward.{from_step, from_no_road, arcs_step}
 use Rattle.road_graph.proofs.cursor.next_passing.Goals as goal
 

@@ -1,4 +1,4 @@
-use Rattle.std.proofs.Common.{◌≡◌, ◌<◌, true, false, length, sym, refl, ap, ◌∙◌, arith}
+use Rattle.std.proofs.Common.{◌≡◌, ◌<◌, true, length, sym, refl, ◌∙◌, arith}
 use Rattle.roads.specs.Networks.{numbered}
 use Rattle.map_file.specs.Layout.{road_count}
 use Rattle.chained_map.specs.Opened.{file}

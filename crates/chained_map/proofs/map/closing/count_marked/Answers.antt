@@ -1,4 +1,4 @@
-use Rattle.std.proofs.Common.{◌≡◌, true, false, sym, ◌∙◌, arith}
+use Rattle.std.proofs.Common.{true, false, sym, ◌∙◌, arith}
 use Rattle.closings.proofs.Tallies.{tally_more}
 use Rattle.chained_map.specs.Closed.{marked}
 use Rattle.chained_map.proofs.map.closing.count_marked.Goals as goal

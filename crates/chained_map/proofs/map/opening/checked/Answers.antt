@@ -1,4 +1,4 @@
-use Rattle.std.proofs.Common.{arith, rules}
+use Rattle.std.proofs.Common.{rules}
 use Rattle.chained_map.proofs.map.opening.checked.Goals as goal
 
 pub returns : goal.returns

@@ -1,4 +1,4 @@
-use Rattle.std.proofs.Common.{◌≡◌, ◌<◌, length, set, ap, ◌∙◌, arith}
+use Rattle.std.proofs.Common.{◌<◌, length, set, ap, ◌∙◌, arith}
 use Rattle.search.proofs.Fills.{with_marks, fill_more}
 use Rattle.search.proofs.frontier.Frontier.clear.Goals as goal
 

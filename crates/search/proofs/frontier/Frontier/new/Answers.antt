@@ -1,4 +1,4 @@
-use Rattle.std.proofs.Common.{◌≡◌, eqb, replicate, ap}
+use Rattle.std.proofs.Common.{eqb, ap}
 use Rattle.search.proofs.Fills.{all_alike}
 use Rattle.search.proofs.frontier.Frontier.new.Goals as goal
 

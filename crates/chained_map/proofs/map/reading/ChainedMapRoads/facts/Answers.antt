@@ -1,4 +1,4 @@
-use Rattle.std.proofs.Common.{arith, rules}
+use Rattle.std.proofs.Common.{rules}
 use Rattle.map_file.proofs.Passed.{few_roads}
 use Rattle.chained_map.specs.Opened.{file}
 use Rattle.chained_map.specs.Chained.{sound_head}
