@@ -2,7 +2,6 @@ pub mod Meaning
 pub mod Opened
 pub mod Marks
 pub mod Closed
-pub mod Shut
-pub mod Meant
 pub mod Chained
-pub mod Marked
+pub mod Meant
+pub mod Coherence

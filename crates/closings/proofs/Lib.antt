@@ -1,2 +1,4 @@
+pub mod Keeping
 pub mod Tallies
+pub mod Layering
 pub mod Reversing

@@ -7,7 +7,7 @@ use Rattle.roads.specs.declared.fault.Report.{Report}
 use Rattle.roads.specs.Faults.{reported, unless, or_else}
 use Rattle.roads.specs.Networks.{Network, numbered}
 use Rattle.closings.specs.Closures.{Closures, Coherent, opened, with_own, close_fault, reopen_fault, Moved, Reversible}
-use Rattle.closings.specs.Layering.{opened_again}
+use Rattle.closings.specs.Coherence.{opened_again}
 
 -- a check that is passed, and what comes after it
 passed : (t : Bool) (n r : ℕ) (p : Part) (later : Option Report) → None ≡ or_else (unless t n r p) later → (t ≡ true) × (None ≡ later)

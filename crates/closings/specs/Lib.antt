@@ -1,5 +1,4 @@
 pub mod Closures
 pub mod Layers
 pub mod Tables
-pub mod Layering
-pub mod Keeping
+pub mod Coherence

@@ -8,7 +8,7 @@ ghost use Rattle.chained_map.specs.Meaning.{network};
 ghost use Rattle.chained_map.specs.Opened.{file};
 ghost use Rattle.chained_map.specs.Marks.{with_mark};
 ghost use Rattle.chained_map.specs.Closed.{marked};
-ghost use Rattle.chained_map.specs.Shut.{map_coherent};
+ghost use Rattle.chained_map.specs.Coherence.{map_coherent};
 
 use super::ChainedMap;
 use super::reading::{has_road, mark_field, road_count};

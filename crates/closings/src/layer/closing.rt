@@ -4,7 +4,7 @@ ghost use Rattle.roads.specs.RoadLists.{has};
 ghost use Rattle.closings.specs.Closures.{tally, close_fault, reopen_fault};
 ghost use Rattle.closings.specs.Layers.{layered};
 ghost use Rattle.closings.specs.Tables.{items, kept, other_road};
-ghost use Rattle.closings.specs.Layering.{layered_coherent};
+ghost use Rattle.closings.specs.Coherence.{layered_coherent};
 
 use super::ClosingsLayer;
 use crate::Closable;

@@ -4,7 +4,7 @@ ghost use Rattle.roads.specs.Networks.{numbered};
 ghost use Rattle.closings.specs.Closures.{opened};
 ghost use Rattle.closings.specs.Layers.{layered};
 ghost use Rattle.closings.specs.Tables.{items};
-ghost use Rattle.closings.specs.Layering.{opened_sound};
+ghost use Rattle.closings.specs.Coherence.{opened_sound};
 
 use super::ClosingsLayer;
 use crate::table::{Table, is_road};

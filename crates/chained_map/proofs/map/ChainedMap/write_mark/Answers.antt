@@ -4,7 +4,7 @@ use Rattle.map_file.specs.Layout.{road_count}
 use Rattle.chained_map.specs.Opened.{file}
 use Rattle.chained_map.specs.Marks.{mark_place}
 use Rattle.chained_map.specs.Meant.{road_bounds}
-use Rattle.chained_map.specs.Marked.{place_in, still_sound, still_held, still_small}
+use Rattle.chained_map.proofs.Marked.{place_in, still_sound, still_held, still_small}
 use Rattle.chained_map.proofs.map.ChainedMap.write_mark.Goals as goal
 
 pub returns-then-not-has_road : goal.returns-then-not-has_road

@@ -1,7 +1,7 @@
 use Rattle.std.proofs.Common.{true, eqb, get_or, take, sym, ◌∙◌, arith}
 use Rattle.roads.specs.RoadLists.{has}
 use Rattle.std.proofs.lemmas.Bool.{ne_eqb, cond-false}
-use Rattle.closings.specs.Keeping.{has_more, has_at_front}
+use Rattle.closings.proofs.Keeping.{has_more, has_at_front}
 use Rattle.closings.proofs.table.Table.contains.Goals as goal
 
 pub loop-i-preserved : goal.loop-i-preserved

@@ -1,7 +1,7 @@
 use Rattle.std.proofs.Common.{◌+◌, ◌<◌, length, take, sym, ap, ◌∙◌, arith, rules}
 use Rattle.roads.specs.Networks.{numbered}
 use Rattle.closings.specs.Tables.{kept}
-use Rattle.closings.specs.Keeping.{kept_few_front, length_kept_more}
+use Rattle.closings.proofs.Keeping.{kept_few_front, length_kept_more}
 use Rattle.closings.proofs.Tallies.{tally_kept}
 use Rattle.closings.proofs.table.Table.count_roads.Goals as goal
 use Rattle.closings.proofs.table.Table.count_roads.Goals.{then-is_road, else-is_road}

@@ -1,6 +1,6 @@
 use Rattle.std.proofs.Common.{◌<◌, length, take, ◌∙◌, arith, length-set, length-take}
 use Rattle.std.proofs.lemmas.List.{take_more_set}
-use Rattle.closings.specs.Keeping.{distinct_push}
+use Rattle.closings.proofs.Keeping.{distinct_push}
 use Rattle.closings.proofs.table.Table.push.Goals as goal
 
 pub invariant_of-self : goal.invariant_of-self

@@ -2,7 +2,7 @@ use Rattle.std.proofs.Common.{◌≡◌, [], ◌∷◌, ◌++◌, length, get_or
 use Rattle.std.proofs.lemmas.Bool.{and_left}
 use Rattle.roads.specs.RoadLists.{has}
 use Rattle.closings.specs.Tables.{items, kept, other_road}
-use Rattle.closings.specs.Keeping.{has_kept, kept_few_front, kept_more, new_at, others_without}
+use Rattle.closings.proofs.Keeping.{has_kept, kept_few_front, kept_more, new_at, others_without}
 use Rattle.closings.proofs.Tallies.{others_tally}
 use Rattle.closings.proofs.table.Table.without.Goals as goal
 use Rattle.closings.proofs.table.Table.without.Goals.{then-is_other_road, else-is_other_road}

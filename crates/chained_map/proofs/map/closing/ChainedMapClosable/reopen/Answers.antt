@@ -7,7 +7,7 @@ use Rattle.map_file.specs.Layout.{road_count}
 use Rattle.chained_map.specs.Opened.{file}
 use Rattle.chained_map.specs.Marks.{with_mark}
 use Rattle.chained_map.specs.Meant.{road_bounds}
-use Rattle.chained_map.specs.Shut.{marked_now, network_now}
+use Rattle.chained_map.proofs.Shut.{marked_now, network_now}
 use Rattle.chained_map.proofs.map.closing.ChainedMapClosable.reopen.Goals as goal
 
 pub returns-in_err-check_reopen : goal.returns-in_err-check_reopen

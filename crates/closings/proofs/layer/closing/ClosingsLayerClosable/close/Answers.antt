@@ -1,7 +1,7 @@
 use Rattle.std.proofs.Common.{ap}
 use Rattle.closings.specs.Layers.{layered}
 use Rattle.closings.specs.Tables.{items}
-use Rattle.closings.specs.Layering.{layer_closed}
+use Rattle.closings.proofs.Layering.{layer_closed}
 use Rattle.closings.proofs.Reversing.{closable_road}
 use Rattle.closings.proofs.layer.closing.ClosingsLayerClosable.close.Goals as goal
 

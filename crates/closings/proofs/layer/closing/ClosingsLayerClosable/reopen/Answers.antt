@@ -1,6 +1,6 @@
 use Rattle.std.proofs.Common.{ap}
 use Rattle.closings.specs.Tables.{items}
-use Rattle.closings.specs.Layering.{layer_reopened}
+use Rattle.closings.proofs.Layering.{layer_reopened}
 use Rattle.closings.proofs.layer.closing.ClosingsLayerClosable.reopen.Goals as goal
 
 pub returns : goal.returns

@@ -3,42 +3,20 @@ use Rattle.std.specs.Prelude.{◌≡◌, ℕ, zero, suc, ◌+◌, ◌<◌, ◌�
 use Rattle.std.proofs.Common.{sym, ap, ap₂, ◌∙◌, ⊎_elim, arith}
 use Rattle.std.proofs.Math.Path.{fun_ext}
 use Rattle.std.specs.Option.{option_map}
-use Rattle.std.proofs.lemmas.Bool.{cases_eq, eqb-true, eqb-false, ltb-true, lt-ltb, and_parts, true≢false}
+use Rattle.std.proofs.lemmas.Bool.{cases_eq, eqb-true, eqb-false, ltb-true, lt-ltb}
 use Rattle.roads.specs.declared.fault.Part.TheVariants.{Map}
 use Rattle.roads.specs.declared.fault.Report.{Report}
 use Rattle.roads.specs.Faults.{unless, or_else}
-use Rattle.roads.specs.Networks.{Network, numbered}
-use Rattle.closings.specs.Closures.{Closures, tally, stands_open, with_open, opened, Coherent, with_own, close_fault}
+use Rattle.roads.specs.Networks.{numbered}
+use Rattle.closings.specs.Closures.{Closures, tally, stands_open, with_open, opened, with_own, close_fault}
 use Rattle.map_file.specs.Layout.{junction_count, road_count, mark_at}
 use Rattle.map_file.specs.Chains.{chain_of, open_fault}
 use Rattle.chained_map.specs.Meaning.{facts_at, network}
 use Rattle.chained_map.specs.Marks.{with_mark}
 use Rattle.chained_map.specs.Closed.{marked}
 use Rattle.chained_map.specs.Meant.{is_road, road_bounds}
-use Rattle.chained_map.specs.Marked.{n_same, m_same, mark_other, mark_now, facts_but_mark, own_chain_same}
-
--- where a road is one of the map's, it stands open as its mark says
-stands : (b z : Bool) → b ≡ true → (b && not (b && not z)) ≡ z
-stands true true e = refl
-stands true false e = refl
-stands false z e = absurd (true≢false (sym e))
-
-network_path : (v w : Network) → v.junctions ≡ w.junctions → v.roads ≡ w.roads → ((r : ℕ) → v.facts r ≡ w.facts r) → ((j : ℕ) → v.leaving j ≡ w.leaving j) → v ≡ w
-network_path v w n m f l = λ i. record { junctions = n i; roads = m i; facts = fun_ext f i; leaving = fun_ext l i }
-
--- the facts of a road under its mark
-facts_open : (bs : List ℕ) (r : ℕ) (b : Bool) → numbered (road_count bs) r ≡ b →
-    option_map (with_open (stands_open (marked bs) r)) (cond b (Some (facts_at bs r)) None) ≡ cond b (Some (facts_at bs r)) None
-facts_open bs r false e = refl
-facts_open bs r true e =
-    ap (λ o. Some (with_open o (facts_at bs r))) (stands (numbered (road_count bs) r) (mark_at bs r == 0) e)
-
-pub map_coherent : (bs : List ℕ) → Coherent (network bs) (marked bs)
-map_coherent bs = record {
-  roads_open = network_path (opened (network bs) (marked bs)) (network bs) refl refl (λ r. facts_open bs r (numbered (road_count bs) r) refl) (λ j. refl);
-  under_roads = λ r e. e;
-  own_roads = λ r e. (and_parts (numbered (road_count bs) r) (not (mark_at bs r == 0)) e).0;
-}
+use Rattle.chained_map.proofs.Marked.{n_same, m_same, mark_other, mark_now, facts_but_mark, own_chain_same}
+use Rattle.chained_map.specs.Coherence.{stands, network_path}
 
 -- a set that lacks one of 1, .., m has fewer than m of them
 tally_most : (set : ℕ → Bool) (m : ℕ) → tally set m ≤ m
