@@ -24,3 +24,6 @@ open_count w = tally (λ r. is_open (w.facts r)) w.roads
 
 abbrev pub tallied : Network → Tally
 tallied w = record { «open» = open_count w; closed = w.roads - open_count w }
+
+abbrev pub tally_text : Tally → List ℕ
+tally_text x = decimal x.open ++ (codes " open, " ++ (decimal x.closed ++ codes " closed"))

@@ -30,11 +30,7 @@ pub fn apply_line<R: Closable>(roads: &mut R, line: &[u8], number: usize) -> Res
             roads.reopen(road)?;
             Ok(Change::Reopened(road))
         }
-        _ => Err(Fault {
-            refusal: Refusal::Line,
-            place: number,
-            part: Part::Book,
-        }),
+        _ => Err(Fault::new(Refusal::Line, number, Part::Book)),
     }
 }
 

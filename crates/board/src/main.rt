@@ -4,11 +4,12 @@
 mod changes;
 mod rows;
 
-use book_lines::next_line;
+use book_lines::Lines;
 use chained_map::ChainedMap;
 use changes::apply_line;
 use closings::ClosingsLayer;
-use roads::{Roads, leaving_roads};
+use roads::fault::Report;
+use roads::{Roads, RoadsFrom};
 use rows::{count_open, row_of};
 use std::io::{ErrorKind, Read};
 use std::{env, fs, io};
@@ -16,22 +17,15 @@ use std::{env, fs, io};
 // The bytes of a file; an absent one is empty.
 fn read_file(rt: &HostRuntime, path: &str) -> io::Result<Vec<u8>> {
     match fs::read(rt, path) {
-        Ok(bytes) => Ok(bytes),
-        Err(e) => {
-            if e.kind() == ErrorKind::NotFound {
-                Ok(Vec::new(rt.alloc()))
-            } else {
-                Err(e)
-            }
-        }
+        Err(e) if e.kind() == ErrorKind::NotFound => Ok(Vec::new(rt.alloc())),
+        read => read,
     }
 }
 
 // The roads that leave a junction, a line each.
 fn print_leaving<R: Roads>(rt: &HostRuntime, roads: &R, junction: u32) -> io::Result<()> {
-    let list = leaving_roads(roads, junction, rt.alloc())?;
-    for road in list.iter() {
-        if let Some(row) = row_of(roads, *road) {
+    for road in RoadsFrom::new(roads, junction) {
+        if let Some(row) = row_of(roads, road) {
             println!(rt; "  {row}")?;
         }
     }
@@ -48,10 +42,7 @@ fn print_board(rt: &HostRuntime, layer: &ClosingsLayer<ChainedMap>) -> io::Resul
         println!(rt; "junction {junction} code {code}")?;
         print_leaving(rt, layer, junction)?;
     }
-    let tally = count_open(layer);
-    let open = tally.open;
-    let closed = tally.closed;
-    println!(rt; "listed {m} roads: {open} open, {closed} closed")
+    println!(rt; "listed {m} roads: {}", count_open(layer))
 }
 
 // Tries each line on a layer, and says what came of it.
@@ -60,19 +51,11 @@ fn apply_lines(
     layer: &mut ClosingsLayer<ChainedMap>,
     text: &[u8],
 ) -> io::Result<()> {
-    let mut rest = text;
-    let mut number: usize = 0;
-    while !rest.is_empty() {
-        let (line, more) = next_line(rest);
-        number = number.saturating_add(1);
+    for (line, number) in Lines::new(text).zip(1..) {
         match apply_line(layer, line, number) {
             Ok(change) => println!(rt; "{number} {change}")?,
-            Err(fault) => {
-                let report = fault.report();
-                println!(rt; "{number} refused {report}")?;
-            }
+            Err(fault) => println!(rt; "{number} refused {}", Report::from(fault))?,
         }
-        rest = more;
     }
     Ok(())
 }
@@ -84,10 +67,7 @@ fn show(rt: &HostRuntime, path: &str, text: &[u8]) -> io::Result<()> {
             apply_lines(rt, &mut layer, text)?;
             print_board(rt, &layer)
         }
-        Err(refused) => {
-            let report = refused.fault.report();
-            println!(rt; "refused {report}")
-        }
+        Err(refused) => println!(rt; "refused {}", Report::from(refused.fault)),
     }
 }
 
@@ -95,14 +75,12 @@ fn show(rt: &HostRuntime, path: &str, text: &[u8]) -> io::Result<()> {
 fn main(rt: HostRuntime) -> io::Result<()> {
     let mut text = Vec::new(rt.alloc());
     rt.stdin().read_to_end(&mut text)?;
-    let mut named = false;
-    for path in env::args(&rt)?.skip(1) {
-        named = true;
+    let mut paths = env::args(&rt)?.skip(1).peekable();
+    if paths.peek().is_none() {
+        return show(&rt, "district.map", text.as_slice());
+    }
+    for path in paths {
         show(&rt, path.as_str(), text.as_slice())?;
     }
-    if named {
-        Ok(())
-    } else {
-        show(&rt, "district.map", text.as_slice())
-    }
+    Ok(())
 }

@@ -1,8 +1,9 @@
 //! What the board says of a road, and how many roads are open.
-ghost use Rattle.std.specs.Prelude.{◌≡◌, Some};
+ghost use Rattle.std.specs.Prelude.{◌≡◌, ◌≤◌, Some, count_by};
+ghost use Rattle.std.specs.List.{range_with_len};
 ghost use Rattle.std.specs.Option.{option_map};
 ghost use Rattle.roads.specs.Networks.{is_open};
-ghost use Rattle.board.specs.Rows.{row_for, row_text, tallied};
+ghost use Rattle.board.specs.Rows.{row_for, row_text, tallied, tally_text};
 
 use charge::{BlendTariff, Tariff};
 use roads::Roads;
@@ -30,39 +31,34 @@ pub fn row_of<R: Roads>(roads: &R, road: u32) -> Option<Row>
     ensures { result ≡ option_map (row_for road) ((R.Roads.meaning roads.now).facts road) }
 {
     let facts = roads.facts(road)?;
-    let tariff = BlendTariff {};
     Some(Row {
         road,
         head: facts.head,
-        blend: tariff.charge(road, facts),
+        blend: BlendTariff.charge(road, facts),
         limit: facts.limit,
         open: facts.open,
     })
 }
 
+// How many roads are open.
+fn open_roads<R: Roads>(roads: &R) -> u32
+    ensures counted { let w = R.Roads.meaning roads.now in result ≡ count_by (λ r. is_open (w.facts r)) (range_with_len 1 w.roads) }
+    ensures few { result ≤ (R.Roads.meaning roads.now).roads }
+{
+    (1..=roads.roads())
+        .filter(|road| roads.is_open(*road))
+        .count() as u32
+}
+
 /// Counts the open and the closed roads.
+#[tactic(auto, using(closings::proofs::Tallies::tally_counts))]
 pub fn count_open<R: Roads>(roads: &R) -> Tally
     ensures { result ≡ tallied (R.Roads.meaning roads.now) }
 {
-    let m = roads.roads();
-    let mut open = 0;
-    for road in 0..m {
-        if is_open(roads, road + 1) {
-            open += 1;
-        }
-    }
+    let open = open_roads(roads);
     Tally {
         open,
-        closed: m - open,
-    }
-}
-
-fn is_open<R: Roads>(roads: &R, road: u32) -> bool
-    ensures { result ≡ is_open ((R.Roads.meaning roads.now).facts road) }
-{
-    match roads.facts(road) {
-        Some(facts) => facts.open,
-        None => false,
+        closed: roads.roads() - open,
     }
 }
 
@@ -70,14 +66,19 @@ impl fmt::Display for Row {
     ghost output = { λ x. Some (row_text x) };
 
     fn fmt<W: fmt::Write>(&self, f: &mut fmt::Formatter<W>) -> fmt::Result {
-        let road = self.road;
-        let head = self.head;
-        let blend = self.blend;
-        let limit = self.limit;
         let state = if self.open { "open" } else { "closed" };
         write!(
             f,
-            "road {road} to {head} blend {blend} limit {limit} {state}"
+            "road {} to {} blend {} limit {} {state}",
+            self.road, self.head, self.blend, self.limit
         )
+    }
+}
+
+impl fmt::Display for Tally {
+    ghost output = { λ x. Some (tally_text x) };
+
+    fn fmt<W: fmt::Write>(&self, f: &mut fmt::Formatter<W>) -> fmt::Result {
+        write!(f, "{} open, {} closed", self.open, self.closed)
     }
 }

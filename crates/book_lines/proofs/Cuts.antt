@@ -1,78 +1,43 @@
--- One more byte of a text that is looked through for a byte, or read as a number.
-use Rattle.std.proofs.Common.{◌≡◌, ℕ, suc, ◌+◌, ◌-◌, ◌*◌, ◌^◌, ◌<◌, ◌≤◌, true, false, cond, ◌&&◌, eqb, leb, ◌⊎◌, List, [], ◌∷◌, ◌++◌, length, get_or, take, drop, Some, None, sym, refl, ap, ◌∙◌, inl, inr, append_assoc, pow-suc, add-one, arith, eq-eqb, ne_eqb, le-leb}
-use borrow.Author.Tests.{lt-leb}
-use Rattle.std.proofs.lemmas.List.{take_more, drop_more}
-use Rattle.std.proofs.lemmas.Bool.{cond-true, cond-false}
-use Rattle.std.specs.Str.{all_ascii_digits}
-use Rattle.book_lines.specs.Pieces.{before, behind, value, number}
-use Rattle.book_lines.specs.Lines.{reading, by_letter}
+-- A text that is cut at a byte, taken line by line, or read as a number.
+use Rattle.std.proofs.Common.{◌≡◌, ℕ, ◌+◌, ◌<◌, true, false, cond, not, ◌==◌, nat_lt, List, [], ◌∷◌, length, take, drop, Some, None, refl, ap, add-one, arith}
+use Rattle.std.proofs.lemmas.List.{take_rest}
+use Rattle.std.specs.List.{slice_range, position, position_or_len}
+use Rattle.std.proofs.Math.Numerals.{one-add}
+use Rattle.std.proofs.lemmas.Bool.Decides.{nat_tests}
+use Rattle.book_lines.specs.Pieces.{before, behind}
+use Rattle.book_lines.specs.Lines.{first_line, later_lines, lines_of}
 
-module _ (b : ℕ) (s : List ℕ) (i : ℕ) (h : i < length s) where
-  here : drop i s ≡ get_or s i 0 ∷ drop (i + 1) s
-  here = drop_more s i 0 h
+module _ (b : ℕ) where
+  before_is : (s : List ℕ) → before b s ≡ take (position_or_len (λ x. x == b) s) s
+  before_is [] = refl
+  before_is (x ∷ s) =
+      elim (x == b) as (λ v. cond v [] (x ∷ before b s) ≡ take (cond (not v) (1 + position_or_len (λ y. y == b) s) 0) (x ∷ s)) [
+        | true ↦ refl
+        | false ↦ rw one-add (ap (λ front. x ∷ front) (before_is s))
+      ]
 
-  pub before_at : get_or s i 0 ≡ b → before b (drop i s) ≡ []
-  before_at e = ap (before b) here ∙ cond-true _ _ _ (eq-eqb _ b e)
+  behind_is : (s : List ℕ) → behind b s ≡ cond (nat_lt (position_or_len (λ x. x == b) s) (length s)) (Some (drop (position_or_len (λ x. x == b) s + 1) s)) None
+  behind_is [] = refl
+  behind_is (x ∷ s) = let more = behind_is s in grind (arith, nat_tests, add-one, one-add)
 
-  pub behind_at : get_or s i 0 ≡ b → behind b (drop i s) ≡ Some (drop (i + 1) s)
-  behind_at e = ap (behind b) here ∙ cond-true _ _ _ (eq-eqb _ b e)
+  -- the place of the first byte b
+  pub placed : (s : List ℕ) (i : ℕ) → Some i ≡ position (λ x. x == b) s → (i < length s) × (before b s ≡ take i s) × (behind b s ≡ Some (slice_range s (i + 1) (length s)))
+  placed s i e = let front = before_is s in let back = behind_is s in let rest = take_rest s (i + 1) in grind (arith, nat_tests)
 
-  pub before_past : (get_or s i 0 ≡ b → ⊥) → take i s ++ before b (drop i s) ≡ take (i + 1) s ++ before b (drop (i + 1) s)
-  before_past n =
-      ap (λ x. take i s ++ x) (ap (before b) here ∙ cond-false _ _ _ (ne_eqb _ b n))
-      ∙ sym (append_assoc (take i s) (get_or s i 0 ∷ []) (before b (drop (i + 1) s)))
-      ∙ ap (λ x. x ++ before b (drop (i + 1) s)) (sym (take_more s i 0 h))
+  pub placed_nowhere : (s : List ℕ) → None ≡ position (λ x. x == b) s → behind b s ≡ None
+  placed_nowhere s e = let back = behind_is s in grind (arith, nat_tests)
 
-  pub behind_past : (get_or s i 0 ≡ b → ⊥) → behind b (drop i s) ≡ behind b (drop (i + 1) s)
-  behind_past n = ap (behind b) here ∙ cond-false _ _ _ (ne_eqb _ b n)
+  -- where no byte is b, all stands before it
+  pub before_all : (s : List ℕ) → behind b s ≡ None → before b s ≡ s
+  before_all [] e = refl
+  before_all (x ∷ s) e = let more = before_all s in grind (arith, nat_tests)
 
-module _ (s : List ℕ) (i : ℕ) (h : i < length s) where
-  digit : drop i s ≡ get_or s i 0 ∷ drop (i + 1) s
-  digit = drop_more s i 0 h
+  pub behind_less : (s t : List ℕ) → behind b s ≡ Some t → length t < length s
+  behind_less [] t e = absurd cc
+  behind_less (x ∷ s) t e = let more = behind_less s t in grind (arith, nat_tests)
 
-  pub digits_past : 48 ≤ get_or s i 0 → get_or s i 0 ≤ 57 → all_ascii_digits (drop i s) ≡ all_ascii_digits (drop (i + 1) s)
-  digits_past lo hi =
-      ap all_ascii_digits digit
-      ∙ ap (λ b. (b && leb (get_or s i 0) 57) && all_ascii_digits (drop (i + 1) s)) (le-leb 48 _ lo)
-      ∙ ap (λ b. b && all_ascii_digits (drop (i + 1) s)) (le-leb _ 57 hi)
-
-  pub digits_not : (get_or s i 0 < 48) ⊎ ((48 ≤ get_or s i 0) × (57 < get_or s i 0)) → all_ascii_digits (drop i s) ≡ false
-  digits_not (inl lo) = ap all_ascii_digits digit ∙ ap (λ b. (b && leb (get_or s i 0) 57) && all_ascii_digits (drop (i + 1) s)) (lt-leb 48 _ lo)
-  digits_not (inr hi) =
-      ap all_ascii_digits digit
-      ∙ ap (λ b. (b && leb (get_or s i 0) 57) && all_ascii_digits (drop (i + 1) s)) (le-leb 48 _ hi.0)
-      ∙ ap (λ b. b && all_ascii_digits (drop (i + 1) s)) (lt-leb _ 57 hi.1)
-
-  pub value_past : (n : ℕ) → value n (drop i s) ≡ value (10 * n + (get_or s i 0 - 48)) (drop (i + 1) s)
-  value_past n = ap (value n) digit
-
-pub number_not : (s : List ℕ) → all_ascii_digits s ≡ false → number s ≡ None
-number_not s e = grind arith
-
-pub number_is : (s : List ℕ) → 1 ≤ length s → length s ≤ 5 → all_ascii_digits s ≡ true → number s ≡ Some (value 0 s)
-number_is s lo hi e = grind arith
-
-pub pow_more : (n d i : ℕ) → n < 10 ^ i → d < 10 → 10 * n + d < 10 ^ (i + 1)
-pow_more n d i h k = rw (add-one, pow-suc 10 i) (omega arith)
-
-pub reading_two : (s : List ℕ) → 2 ≤ length s → get_or s 1 0 ≡ 32 → reading s ≡ by_letter (get_or s 0 0) (drop 2 s)
-reading_two [] h e = absurd (omega arith)
-reading_two (x ∷ []) h e = absurd (omega arith)
-reading_two (x ∷ y ∷ s) h e = cond-true _ _ _ (eq-eqb y 32 e)
-
--- where no byte is b, all stands before it
-pub before_all : (b : ℕ) (s : List ℕ) → behind b s ≡ None → before b s ≡ s
-before_all b [] e = refl
-before_all b (x ∷ xs) e =
-    (elim (eqb x b) as (λ v. cond v (Some xs) (behind b xs) ≡ None → cond v [] (x ∷ before b xs) ≡ x ∷ xs) [
-      | true ↦ λ e. let z : ◌≡◌ {A = ℕ} 0 1 = cc in absurd (omega arith)
-      | false ↦ λ e. ap (λ ys. x ∷ ys) (before_all b xs e)
-    ]) e
-
-pub behind_less : (b : ℕ) (s t : List ℕ) → behind b s ≡ Some t → length t < length s
-behind_less b [] t e = let z : ◌≡◌ {A = ℕ} 0 1 = cc in absurd (omega arith)
-behind_less b (x ∷ xs) t e =
-    (elim (eqb x b) as (λ v. cond v (Some xs) (behind b xs) ≡ Some t → length t < suc (length xs)) [
-      | true ↦ λ e. let s : xs ≡ t = cc in omega (arith, ap length s)
-      | false ↦ λ e. omega (arith, behind_less b xs t e)
-    ]) e
+-- a text with a byte is its first line and the later ones
+pub lines_step : (s : List ℕ) → 0 < length s → lines_of s ≡ first_line s ∷ lines_of (later_lines s)
+lines_step [] h = absurd (omega arith)
+lines_step (x ∷ []) h = grind (arith, nat_tests)
+lines_step (x ∷ y ∷ s) h = let more = lines_step (y ∷ s) in grind (arith, nat_tests)

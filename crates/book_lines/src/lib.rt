@@ -3,6 +3,8 @@
 
 mod lines;
 mod pieces;
+mod text;
 
 pub use lines::{Line, next_line, read_line};
 pub use pieces::read_number;
+pub use text::Lines;

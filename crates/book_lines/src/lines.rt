@@ -19,16 +19,10 @@ fn read_fields(letter: u8, rest: &[u8]) -> Option<Line>
     ensures { result ≡ by_letter letter rest.now }
 {
     match letter {
-        b'C' => Some(Line::Close(read_number(rest)?)),
-        b'O' => Some(Line::Reopen(read_number(rest)?)),
-        b'M' => {
-            let (start, goal) = read_pair(rest)?;
-            Some(Line::Measure(start, goal))
-        }
-        b'W' => {
-            let (start, goal) = read_pair(rest)?;
-            Some(Line::Way(start, goal))
-        }
+        b'C' => read_number(rest).map(Line::Close),
+        b'O' => read_number(rest).map(Line::Reopen),
+        b'M' => read_pair(rest).map(|(start, goal)| Line::Measure(start, goal)),
+        b'W' => read_pair(rest).map(|(start, goal)| Line::Way(start, goal)),
         _ => None,
     }
 }
@@ -46,13 +40,11 @@ pub fn read_line(line: &[u8]) -> Option<Line>
 }
 
 /// The first line of a text without its line feed, and the text that follows.
+#[tactic(auto, using(crate::proofs::Cuts::before_all, crate::proofs::Cuts::behind_less))]
 pub fn next_line(s: &[u8]) -> (&[u8], &[u8])
     ensures line { result.0.now ≡ first_line s.now }
     ensures rest { result.1.now ≡ later_lines s.now }
     ensures less { 0 < length s.now → length result.1.now < length s.now }
 {
-    match cut_at(s, b'\n') {
-        Some((line, rest)) => (line, rest),
-        None => (s, &s[s.len()..]),
-    }
+    cut_at(s, b'\n').unwrap_or((s, &[]))
 }

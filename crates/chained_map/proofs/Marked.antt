@@ -1,5 +1,5 @@
 -- A mark of 0 or 1 that is written into a file which passes its checks.
-use Rattle.std.specs.Prelude.{◌≡◌, ℕ, zero, suc, ◌+◌, ◌-◌, ◌*◌, ◌<◌, ◌≤◌, false, List, length, is_some, None, Option, ◌==◌, ◌≢◌, slice_index, slice_index_or, slice_set}
+use Rattle.std.specs.Prelude.{◌≡◌, ℕ, zero, suc, ◌+◌, ◌-◌, ◌*◌, ◌<◌, ◌≤◌, false, List, length, is_some, None, Option, ◌==◌, ◌≢◌, slice_index, slice_index_or, slice_set, unwrap_or}
 use Rattle.std.proofs.Math.Path.{refl}
 use Rattle.std.proofs.Common.{sym, ap, ◌∙◌, ⊎_elim, arith}
 use Rattle.std.proofs.lemmas.Bool.{cases_eq, le-leb, lt-ltb}
@@ -92,7 +92,7 @@ module _ (bs : List ℕ) (r v : ℕ) where
   pub facts_but_mark : (x : ℕ) → facts_at (with_mark v r bs) x ≡ with_open (mark_at (with_mark v r bs) x == 0) (facts_at bs x)
   facts_but_mark x =
       let cs = with_mark v r bs in
-      let t : tail_at cs x ≡ tail_at bs x = ap (λ j. tail_below cs j x) n_same ∙ tail_same bs cs same_chains (junction_count bs) x (omega arith) in
+      let t : tail_at cs x ≡ tail_at bs x = ap (λ o. unwrap_or o 65535) (ap (λ j. tail_below cs j x) n_same ∙ tail_same bs cs same_chains (junction_count bs) x (omega arith)) in
       let f : (k : ℕ) → k < 9 → field cs (road_record (junction_count cs) x + k) ≡ field bs (road_record (junction_count bs) x + k) =
       λ k h. ap (λ n. field cs (road_record n x + k)) n_same ∙ field_other bs (road_record (junction_count bs) x + k) (mark_place bs r) v (λ e. omega arith) (λ e. omega arith) in
       let h0 : head_at cs x ≡ head_at bs x = ap (λ n. field cs (road_record n x)) n_same ∙ field_other bs (road_record (junction_count bs) x) (mark_place bs r) v (λ e. omega arith) (λ e. omega arith) in
@@ -157,11 +157,11 @@ module _ (bs : List ℕ) (r v : ℕ) (sound : is_some (open_fault bs) ≡ false)
       let old : is_some (chain_fault bs) ≡ false = rw (sound_head bs sound, sound_fields bs sound) at sound in
       none_of (head_fault cs) (field_fault cs) (chain_fault cs) a fields_fine (rw d old)
 
-  pub still_held : (tails : List ℕ) → Tails bs tails → Tails (with_mark v r bs) tails
-  still_held tails t k k0 km =
+  pub still_held : (tails : List (Option ℕ)) → Tails bs tails → Tails (with_mark v r bs) tails
+  still_held tails t k km =
       let cs = with_mark v r bs in
       let e = m_same bs r v in
-      t k k0 (omega (arith, e)) ∙ sym (ap (λ j. tail_below cs j k) (n_same bs r v) ∙ tail_same bs cs (same_chains bs r v) (junction_count bs) k (omega arith))
+      t k (omega (arith, e)) ∙ sym (ap (λ j. tail_below cs j k) (n_same bs r v) ∙ tail_same bs cs (same_chains bs r v) (junction_count bs) k (omega arith))
 
   pub mark_now : mark_at (with_mark v r bs) r ≡ v
   mark_now = ap (λ n. field (with_mark v r bs) (road_record n r + 10)) (n_same bs r v) ∙ mark_here

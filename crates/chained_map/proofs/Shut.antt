@@ -34,7 +34,8 @@ tally_room set (suc m) r p l e =
     elim (set (suc m)) as (λ v. cond v 1 0 + tally set m < suc m) [ true ↦ omega arith | false ↦ omega arith ]) (cases_eq r (suc m))
 
 -- there is always room for a road that is not marked
-pub close_checks : (bs : List ℕ) (r : ℕ) → close_fault (road_count bs) (marked bs) r ≡ or_else (unless (numbered (road_count bs) r) 6 r Map) (unless (not ((marked bs).own r)) 7 r Map)
+pub close_checks : (bs : List ℕ) (r : ℕ) → close_fault (road_count bs) (marked bs) r
+    ≡ or_else (unless (numbered (road_count bs) r) 6 r Map) (unless (not ((marked bs).own r)) 7 r Map)
 close_checks bs r = by (numbered (road_count bs) r) refl ((marked bs).own r) refl where
   full : Option Report
   full = unless (nat_lt (tally (marked bs).own (road_count bs)) (road_count bs)) 9 r Map
@@ -50,6 +51,11 @@ close_checks bs r = by (numbered (road_count bs) r) refl ((marked bs).own r) ref
 
 closures_path : (c d : Closures) → ((r : ℕ) → c.under r ≡ d.under r) → ((r : ℕ) → c.own r ≡ d.own r) → c.capacity ≡ d.capacity → c.finder ≡ d.finder → c ≡ d
 closures_path c d u o k f = λ i. record { under = fun_ext u i; own = fun_ext o i; capacity = k i; finder = f i }
+
+-- the mark of a closed road is 1, and of any other 0
+mark_read : (b : Bool) → not (cond b 1 0 == 0) ≡ b
+mark_read true = refl
+mark_read false = refl
 
 -- a mark of 0 or 1 is written at a road of the map
 module _ (bs : List ℕ) (r v : ℕ) (sound : is_some (open_fault bs) ≡ false) (r0 : 0 < r) (rm : r ≤ road_count bs) (v1 : v ≤ 1) where
@@ -71,7 +77,7 @@ module _ (bs : List ℕ) (r v : ℕ) (sound : is_some (open_fault bs) ≡ false)
             ap (λ x. numbered (road_count bs) q && not (x == 0)) (mark_other bs r v q q0 r0 (eqb-false q r e))
         by false e false h = ap (λ b. b && not (mark_at (with_mark v r bs) q == 0)) h ∙ sym (ap (λ b. b && not (mark_at bs q == 0)) h)
 
-  pub marked_now : marked (with_mark v r bs) ≡ with_own (not (v == 0)) r (marked bs)
+  marked_now : marked (with_mark v r bs) ≡ with_own (not (v == 0)) r (marked bs)
   marked_now = closures_path (marked (with_mark v r bs)) (with_own (not (v == 0)) r (marked bs))
       (λ q. ap (λ m. numbered m q) (m_same bs r v)) own_now (m_same bs r v) refl
 
@@ -91,3 +97,6 @@ module _ (bs : List ℕ) (r v : ℕ) (sound : is_some (open_fault bs) ≡ false)
   network_now = network_path (network (with_mark v r bs)) (opened (network bs) (marked (with_mark v r bs))) (n_same bs r v) (m_same bs r v)
       (λ q. ap (λ m. cond (numbered m q) (Some (facts_at (with_mark v r bs) q)) None) (m_same bs r v) ∙ facts_now q (numbered (road_count bs) q) refl)
       (λ j. ap (λ n. cond (nat_lt j n) (chain_of (with_mark v r bs) j) []) (n_same bs r v) ∙ leaving_now j (nat_lt j (junction_count bs)) refl)
+
+  pub marked_so : (b : Bool) → v ≡ cond b 1 0 → marked (with_mark v r bs) ≡ with_own b r (marked bs)
+  marked_so b e = marked_now ∙ ap (λ x. with_own x r (marked bs)) (ap (λ k. not (k == 0)) e ∙ mark_read b)

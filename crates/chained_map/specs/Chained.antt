@@ -1,9 +1,10 @@
 -- The chains of a file that passes its checks: every road is on one, once, and every chain ends.
-use Rattle.std.specs.Prelude.{◌≡◌, ℕ, zero, suc, ◌+◌, ◌-◌, ◌<◌, ◌≤◌, true, false, cond, List, [], ◌∷◌, ◌++◌, length, replicate, is_some, None, ◌==◌, ◌≢◌, nat_eq, slice_index, slice_index_or, slice_set, refl}
+use Rattle.std.specs.Prelude.{◌≡◌, ℕ, zero, suc, ◌+◌, ◌-◌, ◌<◌, ◌≤◌, true, false, cond, List, [], ◌∷◌, ◌++◌, length, replicate, is_some, is_none, Some, None, Option, ◌==◌, nat_eq, slice_index_or, slice_set, unwrap_or, refl}
 use Rattle.std.proofs.Common.{sym, ap, ◌∙◌}
 use Rattle.std.proofs.Math.Logic.{⊎_elim}
 use native.Mathlib.Omega.{arith}
 use Rattle.std.specs.List.{AllByRecursion}
+use Rattle.std.proofs.lemmas.Option.{none-some}
 use Rattle.std.proofs.lemmas.Bool.Decides.{nat_tests}
 use Rattle.std.proofs.lemmas.Bool.{cases_eq, eqb-true, ne_eqb, eq-eqb, cases_Bool, true≢false}
 use Rattle.std.proofs.lemmas.List.{length-set, length-append, length-replicate, get_or-replicate, get_or-set_other}
@@ -15,36 +16,36 @@ use Rattle.roads.proofs.Firsts.{none_below}
 use Rattle.map_file.specs.Layout.{junction_count, road_count, first_at, next_at}
 use Rattle.map_file.specs.Checks.{head_fault, field_fault}
 use Rattle.map_file.specs.Chains.{chain, chain_of, met, again, tail_below, tail_at, unmet_fault, chain_fault, open_fault}
-use Rattle.map_file.proofs.Passed.{few_junctions, first_fits, next_fits}
-use Rattle.map_file.proofs.Walks.{free, free_less, tail_free, has_append}
+use Rattle.map_file.proofs.Passed.{first_fits, next_fits}
+use Rattle.map_file.proofs.Walks.{free, free_less, tail_met, has_append}
 
 abbrev pub Numbered : ℕ → ℕ → Type 0
 Numbered m r = (0 < r) × (r ≤ m)
 
 -- roads of which none comes again are no more than the entries of a table that are free for them
-few : (m : ℕ) (t seen xs : List ℕ) → length t ≡ m + 1 → ((x : ℕ) → 0 < x → x ≤ m → has x seen ≡ false → slice_index t x ≡ 65535) → AllByRecursion (Numbered m) xs → again seen xs ≡ None → length xs ≤ free t
+few : (m : ℕ) (t : List (Option ℕ)) (seen xs : List ℕ) → length t ≡ m + 1 → ((x : ℕ) → 0 < x → x ≤ m → has x seen ≡ false → slice_index_or t x None ≡ None) → AllByRecursion (Numbered m) xs → again seen xs ≡ None → length xs ≤ free t
 few m t seen [] l f a e = omega arith
 few m t seen (x ∷ xs) l f a e =
     let new : has x seen ≡ false = grind (arith, nat_tests) in
     let e' : again (x ∷ seen) xs ≡ None = grind (arith, nat_tests) in
     let here = f x a.0.0 a.0.1 new in
-    let less = free_less t 0 x (omega arith) (omega (arith, l, a.0.1)) here in
-    let rest = few m (slice_set t x 0) (x ∷ seen) xs (length-set t x 0 ∙ l)
+    let less = free_less t 0 x (omega (arith, l, a.0.1)) here in
+    let rest = few m (slice_set t x (Some 0)) (x ∷ seen) xs (length-set t x (Some 0) ∙ l)
     (λ y y0 ym h.
     let ne : y ≡ x → ⊥ = λ s. let z = eq-eqb y x s in let w : false ≡ true = grind (arith, nat_tests) in grind arith in
-    get_or-set_other t x y 0 0 ne ∙ f y y0 ym (grind (arith, nat_tests)))
+    get_or-set_other t x y (Some 0) None ne ∙ f y y0 ym (grind (arith, nat_tests)))
     a.1 e' in
     omega (arith, less, rest)
 
 short : (m : ℕ) (xs : List ℕ) → AllByRecursion (Numbered m) xs → again [] xs ≡ None → length xs ≤ m
 short m xs a e =
-    let full : List ℕ = replicate (m + 1) 65535 in
-    let len : length full ≡ m + 1 = length-replicate (m + 1) 65535 in
-    let z : slice_index_or full 0 0 ≡ 65535 = get_or-replicate (m + 1) 0 65535 0 (omega arith) in
-    let less = free_less full 0 0 (omega arith) (omega (arith, len)) z in
-    let all = count_by-le-length (λ t. nat_eq t 65535) full in
-    let f = few m (slice_set full 0 0) [] xs (length-set full 0 0 ∙ len)
-    (λ x x0 xm h. get_or-set_other full 0 x 0 0 (λ s. omega arith) ∙ get_or-replicate (m + 1) x 65535 0 (omega arith)) a e in
+    let full : List (Option ℕ) = replicate (m + 1) None in
+    let len : length full ≡ m + 1 = length-replicate (m + 1) None in
+    let z : slice_index_or full 0 None ≡ None = get_or-replicate (m + 1) 0 None None (omega arith) in
+    let less = free_less full 0 0 (omega (arith, len)) z in
+    let all = count_by-le-length is_none full in
+    let f = few m (slice_set full 0 (Some 0)) [] xs (length-set full 0 (Some 0) ∙ len)
+    (λ x x0 xm h. get_or-set_other full 0 x (Some 0) None (λ s. omega arith) ∙ get_or-replicate (m + 1) x None None (omega arith)) a e in
     omega (arith, len, less, all, f)
 
 -- what came does not come again
@@ -125,8 +126,12 @@ met_has bs j (suc k) r l h =
     ⊎_elim (λ (s : j ≡ k). let h' = rw s at h in grind (arith, nat_tests))
     (λ (d : j ≡ k → ⊥). let i = met_has bs j k r (omega arith) h in grind (arith, nat_tests)) (cases_eq j k)
 
+some_is : (o : Option ℕ) (d : ℕ) → is_some o ≡ true → o ≡ Some (unwrap_or o d)
+some_is None d e = absurd (true≢false (sym e))
+some_is (Some t) d e = refl
+
 -- a road on the chain of j has j for its tail
-tail_owner : (bs : List ℕ) (j k r : ℕ) → j < k → again [] (met bs k) ≡ None → has r (chain_of bs j) ≡ true → tail_below bs k r ≡ j
+tail_owner : (bs : List ℕ) (j k r : ℕ) → j < k → again [] (met bs k) ≡ None → has r (chain_of bs j) ≡ true → tail_below bs k r ≡ Some j
 unfolding met tail_below
 tail_owner bs j zero r l e h = absurd (omega arith)
 tail_owner bs j (suc k) r l e h =
@@ -137,14 +142,17 @@ tail_owner bs j (suc k) r l e h =
     rw f i) (cases_eq j k)
 
 -- the junction that is a road's tail has it on its chain
-tail_has : (bs : List ℕ) (j r : ℕ) → (tail_below bs j r ≢ 65535) → (tail_below bs j r < j) × (has r (chain_of bs (tail_below bs j r)) ≡ true)
+tail_has : (bs : List ℕ) (j r t : ℕ) → tail_below bs j r ≡ Some t → (t < j) × (has r (chain_of bs t) ≡ true)
 unfolding tail_below
-tail_has bs zero r ne = absurd (ne refl)
-tail_has bs (suc j) r ne =
-    ⊎_elim (λ (t : has r (chain_of bs j) ≡ true). rw t (omega arith, t))
+tail_has bs zero r t e = absurd (none-some t e)
+tail_has bs (suc j) r t e =
+    ⊎_elim (λ (h : has r (chain_of bs j) ≡ true).
+    let e' = rw h at e in
+    let s : j ≡ t = cc in
+    rw (← s) (omega arith, h))
     (λ (f : has r (chain_of bs j) ≡ false).
-    let i = tail_has bs j r (rw f at ne) in
-    rw f (omega (arith, i.0), i.1)) (cases_Bool (has r (chain_of bs j)))
+    let i = tail_has bs j r t (rw f at e) in
+    (omega (arith, i.0), i.1)) (cases_Bool (has r (chain_of bs j)))
 
 chain_distinct : (bs : List ℕ) (j k : ℕ) → j < k → again [] (met bs k) ≡ None → distinct (chain_of bs j) ≡ true
 unfolding met
@@ -210,15 +218,15 @@ module _ (bs : List ℕ) (sound : is_some (open_fault bs) ≡ false) where
   -- the roads on a chain are roads of the map, with that tail
   pub own_roads : (j r : ℕ) → j < junction_count bs → has r (chain_of bs j) ≡ true → Numbered (road_count bs) r × (tail_at bs r ≡ j)
   own_roads j r l h =
-      (has_all (Numbered (road_count bs)) (chain_of bs j) r (own_numbered bs sound_fields j l) h, tail_owner bs j (junction_count bs) r l sound_again h)
+      (has_all (Numbered (road_count bs)) (chain_of bs j) r (own_numbered bs sound_fields j l) h, ap (λ o. unwrap_or o 65535) (tail_owner bs j (junction_count bs) r l sound_again h))
 
-  -- and a road is on the chain of its tail
+  -- a road has a tail
+  pub tail_known : (r : ℕ) → 0 < r → r ≤ road_count bs → tail_below bs (junction_count bs) r ≡ Some (tail_at bs r)
+  tail_known r p h = some_is (tail_below bs (junction_count bs) r) 65535 (tail_met bs (junction_count bs) r ∙ sound_met r p h)
+
+  -- and is on its chain
   pub own_tail : (r : ℕ) → 0 < r → r ≤ road_count bs → (tail_at bs r < junction_count bs) × (has r (chain_of bs (tail_at bs r)) ≡ true)
-  own_tail r p h =
-      tail_has bs (junction_count bs) r
-      (λ e. let m = sound_met r p h in
-      let u = tail_free bs (junction_count bs) r (omega (arith, few_junctions bs sound_head)) (eq-eqb _ _ e) in
-      true≢false (sym m ∙ u))
+  own_tail r p h = tail_has bs (junction_count bs) r (tail_at bs r) (tail_known r p h)
 
   pub own_next : (r : ℕ) → 0 < r → r ≤ road_count bs → front (past r (chain_of bs (tail_at bs r))) ≡ next_at bs r
   unfolding chain_of

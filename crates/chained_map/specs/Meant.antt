@@ -1,15 +1,15 @@
 -- The network that a file means: how it is read, and that it is well formed.
-use Rattle.std.specs.Prelude.{◌≡◌, ℕ, ◌+◌, ◌^◌, ◌<◌, ◌≤◌, Bool, true, false, cond, List, [], is_some, Some, None, Option, nat_le, nat_lt, slice_index, refl}
+use Rattle.std.specs.Prelude.{◌≡◌, ℕ, ◌+◌, ◌^◌, ◌<◌, ◌≤◌, Bool, true, false, cond, List, [], is_some, Some, None, nat_le, nat_lt, slice_index, refl}
 use Rattle.std.proofs.Common.{sym, ap, subst, ◌∙◌, ⊎_elim, arith}
-use Rattle.std.proofs.lemmas.Bool.{cases_Bool, cond-true, le-leb, lt-ltb, leb-true, ltb-true, ltb-false, and_parts, and_from, eq-eqb, ne_eqb, true≢false}
+use Rattle.std.proofs.lemmas.Bool.{cases_Bool, le-leb, leb-true, ltb-true, ltb-false, and_parts, and_from, eq-eqb, ne_eqb, true≢false}
 use Rattle.roads.specs.declared.facts.Facts.{Facts}
-use Rattle.roads.specs.RoadLists.{has, distinct, front, past}
-use Rattle.roads.specs.Networks.{WellFormed, numbered, leaves, next_leaving}
-use Rattle.map_file.specs.Layout.{field, junction_count, road_count, first_at, next_at}
+use Rattle.roads.specs.RoadLists.{has, distinct}
+use Rattle.roads.specs.Networks.{WellFormed, numbered, leaves}
+use Rattle.map_file.specs.Layout.{field, junction_count, road_count}
 use Rattle.map_file.specs.Chains.{chain_of, tail_at, open_fault}
 use Rattle.map_file.proofs.Passed.{few_junctions, few_roads, head_fits}
 use Rattle.chained_map.specs.Meaning.{facts_at, network}
-use Rattle.chained_map.specs.Chained.{Numbered, chain_front, sound_head, sound_fields, own_distinct, own_roads, own_tail, own_next}
+use Rattle.chained_map.specs.Chained.{Numbered, sound_head, sound_fields, own_distinct, own_roads, own_tail}
 
 pub is_road : (m r : ℕ) → 0 < r → r ≤ m → numbered m r ≡ true
 is_road m r p l = and_from (nat_le 1 r) (nat_le r m) (le-leb 1 r p) (le-leb r m l)
@@ -18,7 +18,7 @@ pub road_bounds : (m r : ℕ) → numbered m r ≡ true → Numbered m r
 road_bounds m r e = let p = and_parts (nat_le 1 r) (nat_le r m) e in (leb-true 1 r p.0, leb-true r m p.1)
 
 -- what is read where a test holds
-taken : {X : Type 0} (b : Bool) (x y : X) → cond b (Some x) None ≡ Some y → (b ≡ true) × (x ≡ y)
+pub taken : {X : Type 0} (b : Bool) (x y : X) → cond b (Some x) None ≡ Some y → (b ≡ true) × (x ≡ y)
 taken true x y e = (refl, cc)
 taken false x y e = let z : ◌≡◌ {A = ℕ} 0 1 = cc in absurd (omega arith)
 
@@ -29,19 +29,7 @@ known_by false x = refl
 pub field_fits : (bs : List ℕ) (at : ℕ) → ((i : ℕ) → slice_index bs i < 256) → field bs at < 2 ^ 16
 field_fits bs at small = omega (arith, small at, small (at + 1))
 
-pub first_read : (bs : List ℕ) (j : ℕ) → j < junction_count bs → front ((network bs).leaving j) ≡ first_at bs j
-unfolding chain_of
-first_read bs j h = ap front (cond-true (nat_lt j (junction_count bs)) (chain_of bs j) [] (lt-ltb j (junction_count bs) h)) ∙ chain_front bs (road_count bs + 1) (first_at bs j) (omega arith)
-
 module _ (bs : List ℕ) (sound : is_some (open_fault bs) ≡ false) where
-  pub next_read : (r : ℕ) → 0 < r → r ≤ road_count bs → next_leaving (network bs) r ≡ next_at bs r
-  next_read r p l =
-      let t = own_tail bs sound r p l in
-      let j = tail_at bs r in
-      ap (λ (o : Option Facts). elim o [ None ↦ 0 | Some f ↦ front (past r ((network bs).leaving f.tail)) ]) (cond-true (numbered (road_count bs) r) (Some (facts_at bs r)) None (is_road (road_count bs) r p l))
-      ∙ ap (λ xs. front (past r xs)) (cond-true (nat_lt j (junction_count bs)) (chain_of bs j) [] (lt-ltb j (junction_count bs) t.0))
-      ∙ own_next bs sound r p l
-
   road_of : (r : ℕ) (f : Facts) → (network bs).facts r ≡ Some f → Numbered (road_count bs) r × (facts_at bs r ≡ f)
   road_of r f e = let t = taken (numbered (road_count bs) r) (facts_at bs r) f e in (road_bounds (road_count bs) r t.0, t.1)
 

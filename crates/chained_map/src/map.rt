@@ -1,13 +1,15 @@
 ghost use Rattle.std.specs.Prelude.{◌≡◌, ℕ, ◌<◌, false, is_some, slice_index};
 ghost use Rattle.map_file.specs.Chains.{Tails, open_fault};
 
+use map_file::TailTable;
 use roads::fault::Fault;
 
 /// A map: its bytes, and the tail of each road, which the file has only by its chains.
 #[derive(Drop)]
 pub struct ChainedMap {
     bytes: Vec<u8>,
-    tails: [u16; 4097],
+    tails: TailTable,
+    // Kept: a law takes the numbers of a struct for any, and the widths of seconds, metres and limit rest on this.
     ghost small: { (i : ℕ) → slice_index bytes.items i < 256 },
     ghost sound: { is_some (open_fault bytes.items) ≡ false },
     ghost held: { Tails bytes.items tails },

@@ -3,6 +3,7 @@ ghost use Rattle.std.specs.Prelude.{◌≡◌};
 ghost use Rattle.charge.specs.Scales.{Scale, Associative, Neutral, Ordered, Monotone, Growing};
 
 /// What a road or a list of roads costs.
+// Kept: plain numbers are charges, since figures are lent lists of them, and a larger load is cheaper, so no derived order serves
 pub trait Charge: Copy {
     // How charges are joined and compared.
     ghost scale: { Scale Self };

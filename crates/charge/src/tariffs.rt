@@ -18,7 +18,7 @@ pub trait Tariff {
 
 /// Three for each second and two for each metre.
 #[derive(Clone, Copy)]
-pub struct BlendTariff {}
+pub struct BlendTariff;
 
 impl Tariff for BlendTariff {
     type Charge = u32;
@@ -32,7 +32,7 @@ impl Tariff for BlendTariff {
 
 /// The limit as it is, 0 included.
 #[derive(Clone, Copy)]
-pub struct LoadTariff {}
+pub struct LoadTariff;
 
 impl Tariff for LoadTariff {
     type Charge = u16;

@@ -26,8 +26,6 @@ fn with_road<R: Roads, F: Tariff>(
 ) -> Option<F::Charge>
     ensures { result ≡ both F.Charge.Charge.scale.joined (Some total) (charge_of (R.Roads.meaning roads.now).facts (F.Tariff.meaning tariff.now) road) }
 {
-    match roads.facts(road) {
-        Some(facts) => Some(total.join(tariff.charge(road, facts))),
-        None => None,
-    }
+    let facts = roads.facts(road)?;
+    Some(total.join(tariff.charge(road, facts)))
 }

@@ -1,4 +1,4 @@
 pub mod Keeping
 pub mod Tallies
 pub mod Layering
-pub mod Reversing
+pub mod UpTo

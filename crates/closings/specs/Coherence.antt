@@ -1,6 +1,6 @@
 -- Closures over a network: the roads stay well formed, and a later opening takes the place of an earlier one.
 use Rattle.std.specs.Prelude.{◌≡◌, ℕ, Bool, true, List, is_some, Some, None, Option, refl}
-use Rattle.std.proofs.Common.{sym, ◌∙◌, arith}
+use Rattle.std.proofs.Common.{sym, ◌∙◌}
 use Rattle.std.specs.Option.{option_map}
 use Rattle.std.proofs.lemmas.Bool.{and_parts}
 use Rattle.roads.specs.declared.facts.Facts.{Facts}
@@ -16,7 +16,7 @@ record Before (b : Bool) (o : Option Facts) (f : Facts) : Type 0 where
   now : f ≡ with_open b was
 
 before : (b : Bool) (o : Option Facts) (f : Facts) → option_map (with_open b) o ≡ Some f → Before b o f
-before b None f e = let z : ◌≡◌ {A = ℕ} 0 1 = cc in absurd (omega arith)
+before b None f e = absurd cc
 before b (Some x) f e = record { was = x; there = refl; now = cc }
 
 known_still : (b : Bool) (o : Option Facts) → is_some (option_map (with_open b) o) ≡ is_some o

@@ -1,15 +1,12 @@
 -- The numbers that a table holds.
-use Rattle.std.specs.Prelude.{ℕ, Bool, cond, not, ◌&&◌, List, [], ◌∷◌, take, ◌==◌}
+use Rattle.std.specs.Prelude.{◌≡◌, ℕ, ◌≤◌, Bool, true, not, ◌&&◌, List, length, take, ◌==◌}
+use Rattle.roads.specs.RoadLists.{distinct}
 use Rattle.roads.specs.Networks.{numbered}
-use Rattle.closings.specs.declared.table.Table.{Table}
 
-abbrev pub items : Table → List ℕ
-items t = take t.count t.slots
-
--- those of a list that pass a test, in order
-abbrev pub kept : (ℕ → Bool) → List ℕ → List ℕ
-kept test [] = []
-kept test (x ∷ xs) = cond (test x) (x ∷ kept test xs) (kept test xs)
+-- the first numbers of some places, none of them twice
+pub record IsTable (slots : List ℕ) (count : ℕ) : Type 0 where
+  pub few : count ≤ length slots
+  pub once : distinct (take count slots) ≡ true
 
 -- whether x is one of m roads, and not r
 abbrev pub other_road : ℕ → ℕ → ℕ → Bool

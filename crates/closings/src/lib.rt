@@ -5,9 +5,11 @@ ghost use Rattle.std.specs.Prelude.{◌≡◌, true, false};
 ghost use Rattle.roads.specs.Faults.{reported};
 ghost use Rattle.closings.specs.Closures.{Closures, Coherent, tally, close_fault, reopen_fault, Moved, Reversible};
 
+mod checks;
 mod layer;
 mod table;
 
+pub use checks::{check_closed, check_not_closed};
 pub use layer::ClosingsLayer;
 use roads::Roads;
 use roads::fault::Fault;

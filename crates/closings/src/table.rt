@@ -1,16 +1,26 @@
 // Up to 32 road numbers, none of them twice.
-ghost use Rattle.std.specs.Prelude.{◌≡◌, ◌≤◌, true, length, take};
-ghost use Rattle.roads.specs.RoadLists.{distinct};
+use std::marker::Model;
 
-#[derive(Clone, Copy)]
+// The most numbers that a table holds.
+pub(crate) const CAPACITY: usize = 32;
+
+#[derive(Drop)]
 pub(crate) struct Table {
-    slots: [u32; 32],
+    // Kept: fixed memory, a layer holds a plain table of 32 numbers.
+    slots: [u32; CAPACITY],
     count: usize,
-    ghost long: { length slots ≡ 32 },
-    ghost few: { count ≤ 32 },
-    ghost once: { distinct (take count slots) ≡ true },
+}
+
+// A table is seen as the list of its numbers, in the order in which they came.
+impl Model for Table {
+    ghost use Rattle.std.specs.Prelude.{List, ℕ, take};
+    ghost use Rattle.closings.specs.Tables.{IsTable};
+
+    ghost Value = { List ℕ };
+
+    ghost view = { λ t. take t.count t.slots };
+
+    ghost invariant = { λ t. IsTable t.slots t.count };
 }
 
 mod edits;
-
-pub(crate) use edits::is_road;

@@ -1,25 +1,12 @@
 -- When a junction is on a border, and which are listed.
-use Rattle.std.proofs.Common.{◌≡◌, ℕ, zero, suc, ◌<◌, ◌≤◌, Bool, true, cond, not, ◌&&◌, ◌||◌, eqb, ◌≢◌, ◌⊎◌, List, [], ◌∷◌, ◌++◌, Some, None, Option, sym, refl, subst, inl, inr, ⊎_elim, arith}
+use Rattle.std.proofs.Common.{◌≡◌, ℕ, zero, suc, ◌<◌, ◌≤◌, Bool, true, cond, not, ◌&&◌, ◌||◌, eqb, ◌≢◌, ◌⊎◌, [], ◌∷◌, Some, None, Option, sym, refl, subst, inl, ⊎_elim, arith}
 use Rattle.std.proofs.lemmas.Bool.{cond_both, both_ways, and_parts, and_from, or_cases, or_left, or_right, not_from_false, eqb-true, eq-eqb, ne_eqb, cases_lt}
 use Rattle.roads.specs.declared.facts.Facts.{Facts}
 use Rattle.roads.specs.Networks.{Network, WellFormed}
 use Rattle.walks.specs.Digraphs.{In}
+use Rattle.walks.proofs.Members.{in_left, in_right, in_either}
 use Rattle.cells.specs.Cells.{Survey, cell, has_end, crosses, some_road, border, those_below, borders_of}
 use Rattle.exactness.proofs.RoadArcs.{road_number}
-
-pub in_left : {X : Type 0} (x : X) (xs ys : List X) → In x xs → In x (xs ++ ys)
-in_left x [] ys i = absurd i
-in_left x (z ∷ xs) ys (inl e) = inl e
-in_left x (z ∷ xs) ys (inr i) = inr (in_left x xs ys i)
-
-pub in_right : {X : Type 0} (x : X) (xs ys : List X) → In x ys → In x (xs ++ ys)
-in_right x [] ys i = i
-in_right x (z ∷ xs) ys i = inr (in_right x xs ys i)
-
-pub in_either : {X : Type 0} (x : X) (xs ys : List X) → In x (xs ++ ys) → In x xs ⊎ In x ys
-in_either x [] ys i = inr i
-in_either x (z ∷ xs) ys (inl e) = inl (inl e)
-in_either x (z ∷ xs) ys (inr i) = ⊎_elim (λ j. inl (inr j)) (λ j. inr j) (in_either x xs ys i)
 
 some_road_from : (test : ℕ → Bool) (m r : ℕ) → 1 ≤ r → r ≤ m → test r ≡ true → some_road test m ≡ true
 some_road_from test zero r lo hi t = absurd (omega arith)

@@ -1,16 +1,10 @@
--- The laws of charges together, what walks one after another cost, and when least totals agree.
+-- What walks one after another cost, and when least totals agree.
 use Rattle.std.proofs.Common.{◌≡◌, ℕ, true, ◌↔◌, List, [], ◌∷◌, ◌++◌, Some, None, Option, sym, ap, ◌∙◌, subst}
-use Rattle.charge.specs.Scales.{Scale, Associative, Neutral, Ordered, Monotone, Growing}
+use Rattle.charge.specs.Scales.{Scale}
+use Rattle.charge.proofs.Laws.{Lawful}
 use Rattle.walks.specs.declared.arcs.Arc.{Arc}
 use Rattle.walks.specs.Digraphs.{Digraph, Walk, cost}
 use Rattle.walks.specs.Least.{LeastOf}
-
-pub record Laws {C : Type 0} (s : Scale C) : Type 0 where
-  pub associative : Associative s
-  pub unit : Neutral s
-  pub order : Ordered s
-  pub monotone : Monotone s
-  pub growing : Growing s
 
 module _ {C : Type 0} (g : Digraph C) where
   pub walk_from : (a b d : ℕ) (w : List Arc) → a ≡ b → Walk g b w d → Walk g a w d
@@ -20,10 +14,7 @@ module _ {C : Type 0} (g : Digraph C) where
   walk_append a b d [] w e h = walk_from a b d w e h
   walk_append a b d (r ∷ v) w (i, k) h = (i, walk_append r.head b d v w k h)
 
-module _ {C : Type 0} {s : Scale C} (laws : Laws s) where
-  pub neutral_least : (a : C) → s.leq s.neutral a ≡ true
-  neutral_least a = rw (laws.unit.left a) at (laws.growing.first s.neutral a)
-
+module _ {C : Type 0} {s : Scale C} (laws : Lawful s) where
   pub cost_append : (g : Digraph C) (v w : List Arc) → cost s g (v ++ w) ≡ s.joined (cost s g v) (cost s g w)
   cost_append g [] w = sym (laws.unit.left (cost s g w))
   cost_append g (r ∷ v) w = ap (s.joined (g.charge r)) (cost_append g v w) ∙ sym (laws.associative.regroup (g.charge r) (cost s g v) (cost s g w))

@@ -4,6 +4,7 @@ use Rattle.std.proofs.lemmas.Bool.{and_parts, and_from, eqb-true, eq-eqb, cases_
 use Rattle.roads.specs.declared.facts.Facts.{Facts}
 use Rattle.roads.specs.Networks.{Network, WellFormed}
 use Rattle.charge.specs.Scales.{Scale}
+use Rattle.charge.proofs.Laws.{Lawful, neutral_least}
 use Rattle.walks.specs.declared.arcs.Arc.{Arc}
 use Rattle.walks.specs.Digraphs.{Digraph, Walk, cost}
 use Rattle.walks.specs.Least.{Least}
@@ -11,12 +12,12 @@ use Rattle.cells.specs.Cells.{Survey, cell, border}
 use Rattle.cells.specs.RoadGraphs.{open_roads, stays_inside, inside}
 use Rattle.cells.specs.Overlay.{Sheet, Right, query_level, overlay}
 use Rattle.exactness.proofs.QueryLevels.{nests, level_apart, level_most, level_start, level_same, level_differs}
-use Rattle.exactness.proofs.Costs.{Laws, walk_from, walk_append, neutral_least, cost_append}
+use Rattle.exactness.proofs.Costs.{walk_from, walk_append, cost_append}
 use Rattle.exactness.proofs.RoadArcs.{Road, road_in, in_road, road_head}
 use Rattle.exactness.proofs.Borders.{border_from}
 use Rattle.exactness.proofs.SearchArcs.{hop, is_open, road_serves, hop_serves, road_costs}
 
-module _ {C : Type 0} {s : Scale C} (laws : Laws s) {w : Network} (ok : WellFormed w) (price : ℕ → Facts → C) (c : Survey) where
+module _ {C : Type 0} {s : Scale C} (laws : Lawful s) {w : Network} (ok : WellFormed w) (price : ℕ → Facts → C) (c : Survey) where
   abbrev within : ℕ → ℕ → Digraph C
   within l k = inside s w price c l k
 

@@ -6,11 +6,12 @@ use Rattle.roads.specs.Networks.{Network, WellFormed}
 use Rattle.charge.specs.Scales.{Scale}
 use Rattle.walks.specs.declared.arcs.Arc.{Arc}
 use Rattle.walks.specs.Digraphs.{In, Sound}
+use Rattle.walks.proofs.Members.{in_left, in_right, in_either}
 use Rattle.cells.specs.Cells.{Survey, cell, crosses, border, borders_of}
 use Rattle.cells.specs.RoadGraphs.{arcs_of, road_charge}
 use Rattle.cells.specs.Overlay.{Sheet, query_level, shortcuts_to, shortcuts, overlay_leaving, overlay_charge, overlay}
 use Rattle.exactness.proofs.RoadArcs.{Road, road_in, in_road, road_number, road_tail, road_head, road_leads}
-use Rattle.exactness.proofs.Borders.{in_left, in_right, in_either, border_below, borders_in, in_borders}
+use Rattle.exactness.proofs.Borders.{border_below, borders_in, in_borders}
 
 abbrev pub hop : ℕ → ℕ → Arc
 hop u x = record { tail = u; head = x; road = 0 }

@@ -4,6 +4,7 @@ use Rattle.std.proofs.lemmas.Bool.{and_parts, both_ways}
 use Rattle.roads.specs.declared.facts.Facts.{Facts}
 use Rattle.roads.specs.Networks.{Network, WellFormed}
 use Rattle.charge.specs.Scales.{Scale}
+use Rattle.charge.proofs.Laws.{Lawful}
 use Rattle.walks.specs.declared.arcs.Arc.{Arc}
 use Rattle.walks.specs.Digraphs.{Digraph, Walk, cost}
 use Rattle.walks.specs.Least.{Least}
@@ -11,12 +12,12 @@ use Rattle.cells.specs.Cells.{Survey, cell}
 use Rattle.cells.specs.RoadGraphs.{open_roads, stays_inside, inside}
 use Rattle.cells.specs.Overlay.{Sheet, Right, query_level, overlay, overlay_charge}
 use Rattle.exactness.proofs.QueryLevels.{level_most}
-use Rattle.exactness.proofs.Costs.{Laws, walk_append, cost_append, leasts_agree}
+use Rattle.exactness.proofs.Costs.{walk_append, cost_append, leasts_agree}
 use Rattle.exactness.proofs.RoadArcs.{Road, road_in, in_road}
 use Rattle.exactness.proofs.SearchArcs.{Shortcut, is_open, serving, road_costs}
 use Rattle.exactness.proofs.RoadsToSearch.{roads_to_search}
 
-module _ {C : Type 0} {s : Scale C} (laws : Laws s) {w : Network} (ok : WellFormed w) (price : ℕ → Facts → C) (c : Survey) where
+module _ {C : Type 0} {s : Scale C} (laws : Lawful s) {w : Network} (ok : WellFormed w) (price : ℕ → Facts → C) (c : Survey) where
   abbrev roads : Digraph C
   roads = open_roads s w price
 

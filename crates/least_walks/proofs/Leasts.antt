@@ -1,7 +1,8 @@
 -- What is not dearer, and when least totals agree.
 use Rattle.std.proofs.Common.{◌≡◌, true, ◌↔◌, List, [], ◌∷◌, map, Some, None, Option, refl, ap, inl, inr, ⊎_elim}
-use Rattle.std.proofs.lemmas.Bool.{cond_both, cases_Bool}
+use Rattle.std.proofs.lemmas.Bool.{cond_both}
 use Rattle.charge.specs.Scales.{Scale, Ordered, Monotone, Growing}
+use Rattle.charge.proofs.Laws.{leq_refl}
 use Rattle.walks.specs.declared.arcs.Arc.{Arc}
 use Rattle.walks.specs.Digraphs.{Digraph, In, cost}
 use Rattle.walks.specs.Least.{LeastOf}
@@ -9,13 +10,10 @@ use Rattle.walks.specs.Cutting.{Sub, done, skip, keep}
 use Rattle.walks.specs.Computing.{cheaper, cheapest}
 
 module _ {C : Type 0} {s : Scale C} (order : Ordered s) where
-  leq_self : (a : C) → s.leq a a ≡ true
-  leq_self a = ⊎_elim (λ h. h) (order.comparable a a) (cases_Bool (s.leq a a))
-
   module _ (g : Digraph C) where
     -- some of the arcs are not dearer than all
     pub sub_cost : Monotone s → Growing s → {v w : List Arc} → Sub v w → s.leq (cost s g v) (cost s g w) ≡ true
-    sub_cost mono grow done = leq_self s.neutral
+    sub_cost mono grow done = leq_refl order s.neutral
     sub_cost mono grow (skip h) = order.transitive _ _ _ (sub_cost mono grow h) (grow.last _ _)
     sub_cost mono grow (keep h) = mono.before _ _ _ (sub_cost mono grow h)
 
@@ -45,10 +43,10 @@ module _ {C : Type 0} {s : Scale C} (order : Ordered s) where
 
     one_more : (w : List Arc) (ws : List (List Arc)) (o : Option C) → LeastOf s g (λ v. In v ws) o
         → LeastOf s g (λ v. In v (w ∷ ws)) (cheaper s (cost s g w) o)
-    one_more w ws None h = ((w, inl refl, refl), λ v. ⊎_elim (λ (e : v ≡ w). rw e (leq_self _)) (λ i. absurd (h v i)))
+    one_more w ws None h = ((w, inl refl, refl), λ v. ⊎_elim (λ (e : v ≡ w). rw e (leq_refl order _)) (λ i. absurd (h v i)))
     one_more w ws (Some x) h =
         cond_both (s.leq (cost s g w) x) (cost s g w) x (λ y. LeastOf s g (λ v. In v (w ∷ ws)) (Some y))
-        (λ le. ((w, inl refl, refl), λ v. ⊎_elim (λ (e : v ≡ w). rw e (leq_self _)) (λ i. order.transitive _ _ _ le (h.1 v i))))
+        (λ le. ((w, inl refl, refl), λ v. ⊎_elim (λ (e : v ≡ w). rw e (leq_refl order _)) (λ i. order.transitive _ _ _ le (h.1 v i))))
         (λ gt. ((h.0.0, inr h.0.1, h.0.2), λ v. ⊎_elim (λ (e : v ≡ w). rw e (order.comparable _ _ gt)) (h.1 v)))
 
     -- the cheapest of a list has its least total

@@ -1,23 +1,11 @@
 -- Just the walks of at most k arcs are listed.
-use Rattle.std.proofs.Common.{◌≡◌, ℕ, zero, suc, ◌≤◌, cond, eqb, ◌⊎◌, List, [], ◌∷◌, ◌++◌, map, length, sym, refl, ap, subst, inl, inr, ⊎_elim, arith}
+use Rattle.std.proofs.Common.{◌≡◌, ℕ, zero, suc, ◌≤◌, cond, eqb, List, [], ◌∷◌, map, length, sym, refl, ap, subst, inl, inr, ⊎_elim, arith}
+use Rattle.std.specs.List.{flat_map}
 use Rattle.std.proofs.lemmas.Bool.{cond_both, eqb-true, eq-eqb}
 use Rattle.walks.specs.declared.arcs.Arc.{Arc}
 use Rattle.walks.specs.Digraphs.{Digraph, In, Walk}
-use Rattle.walks.specs.Computing.{gather, walks_within}
-
-in_left : {X : Type 0} (x : X) (xs ys : List X) → In x xs → In x (xs ++ ys)
-in_left x [] ys i = absurd i
-in_left x (z ∷ xs) ys (inl e) = inl e
-in_left x (z ∷ xs) ys (inr i) = inr (in_left x xs ys i)
-
-in_right : {X : Type 0} (x : X) (xs ys : List X) → In x ys → In x (xs ++ ys)
-in_right x [] ys i = i
-in_right x (z ∷ xs) ys i = inr (in_right x xs ys i)
-
-in_either : {X : Type 0} (x : X) (xs ys : List X) → In x (xs ++ ys) → In x xs ⊎ In x ys
-in_either x [] ys i = inr i
-in_either x (z ∷ xs) ys (inl e) = inl (inl e)
-in_either x (z ∷ xs) ys (inr i) = ⊎_elim (λ j. inl (inr j)) (λ j. inr j) (in_either x xs ys i)
+use Rattle.walks.specs.Computing.{walks_within}
+use Rattle.walks.proofs.Members.{in_left, in_right, in_either}
 
 in_map : {X Y : Type 0} (f : X → Y) (x : X) (xs : List X) → In x xs → In (f x) (map f xs)
 in_map f x [] i = absurd i
@@ -29,15 +17,15 @@ map_in f y [] i = absurd i
 map_in f y (z ∷ xs) (inl e) = (z, inl refl, sym e)
 map_in f y (z ∷ xs) (inr i) = let h = map_in f y xs i in (h.0, inr h.1, h.2)
 
-in_gather : {X Y : Type 0} (f : X → List Y) (x : X) (y : Y) (xs : List X) → In x xs → In y (f x) → In y (gather f xs)
-in_gather f x y [] i j = absurd i
-in_gather f x y (z ∷ xs) (inl e) j = in_left y (f z) (gather f xs) (rw e at j)
-in_gather f x y (z ∷ xs) (inr i) j = in_right y (f z) (gather f xs) (in_gather f x y xs i j)
+in_flat_map : {X Y : Type 0} (f : X → List Y) (x : X) (y : Y) (xs : List X) → In x xs → In y (f x) → In y (flat_map f xs)
+in_flat_map f x y [] i j = absurd i
+in_flat_map f x y (z ∷ xs) (inl e) j = in_left y (f z) (flat_map f xs) (rw e at j)
+in_flat_map f x y (z ∷ xs) (inr i) j = in_right y (f z) (flat_map f xs) (in_flat_map f x y xs i j)
 
-gather_in : {X Y : Type 0} (f : X → List Y) (y : Y) (xs : List X) → In y (gather f xs) → (x : X) × In x xs × In y (f x)
-gather_in f y [] i = absurd i
-gather_in f y (z ∷ xs) i =
-    ⊎_elim (λ j. (z, inl refl, j)) (λ j. let h = gather_in f y xs j in (h.0, inr h.1, h.2)) (in_either y (f z) (gather f xs) i)
+flat_map_in : {X Y : Type 0} (f : X → List Y) (y : Y) (xs : List X) → In y (flat_map f xs) → (x : X) × In x xs × In y (f x)
+flat_map_in f y [] i = absurd i
+flat_map_in f y (z ∷ xs) i =
+    ⊎_elim (λ j. (z, inl refl, j)) (λ j. let h = flat_map_in f y xs j in (h.0, inr h.1, h.2)) (in_either y (f z) (flat_map f xs) i)
 
 module _ {C : Type 0} (g : Digraph C) (b : ℕ) where
   abbrev staying : ℕ → List (List Arc)
@@ -56,7 +44,7 @@ module _ {C : Type 0} (g : Digraph C) (b : ℕ) where
   listed zero a (r ∷ w) h l = absurd (omega arith)
   listed (suc k) a [] e l = rw (eq-eqb a b e) (inl refl)
   listed (suc k) a (r ∷ w) (i, h) l =
-      in_right (r ∷ w) (staying a) (gather (going k) (g.leaving a)) (in_gather (going k) r (r ∷ w) (g.leaving a) i
+      in_right (r ∷ w) (staying a) (flat_map (going k) (g.leaving a)) (in_flat_map (going k) r (r ∷ w) (g.leaving a) i
       (in_map (λ v. r ∷ v) w (walks_within g k r.head b) (listed k r.head w h (omega arith))))
 
   pub listed_walks : (k a : ℕ) (w : List Arc) → In w (walks_within g k a b) → Walk g a w b
@@ -64,7 +52,7 @@ module _ {C : Type 0} (g : Digraph C) (b : ℕ) where
   listed_walks (suc k) a w i =
       ⊎_elim (staying_walks a w)
       (λ j.
-      let first = gather_in (going k) w (g.leaving a) j in
+      let first = flat_map_in (going k) w (g.leaving a) j in
       let rest = map_in (λ v. first.0 ∷ v) w (walks_within g k first.0.head b) first.2 in
       subst (λ v. Walk g a v b) rest.2 (first.1, listed_walks k first.0.head rest.0 rest.1))
-      (in_either w (staying a) (gather (going k) (g.leaving a)) i)
+      (in_either w (staying a) (flat_map (going k) (g.leaving a)) i)

@@ -10,39 +10,29 @@ ghost use Rattle.least_walks.specs.Example.{five};
 use charge::Charge;
 
 /// Cutting the loops of a walk leaves a walk between the same ends that comes to no place twice and is not dearer.
-pub fn cut_walks_are_simple_and_not_dearer<C: Charge>() -> u8
+pub fn cut_walks_are_simple_and_not_dearer<C: Charge>()
     ensures { CutWalks C.scale }
-{
-    0
-}
+{}
 
 /// A walk that comes to no place twice has fewer arcs than there are places.
-pub fn simple_walks_are_short<C: Charge>() -> u8
+pub fn simple_walks_are_short<C: Charge>()
     ensures { SimpleWalks C.scale }
-{
-    0
-}
+{}
 
 /// The least over short walks is the least over all walks.
-pub fn short_walks_suffice<C: Charge>() -> u8
+pub fn short_walks_suffice<C: Charge>()
     ensures { ShortWalks C.scale }
-{
-    0
-}
+{}
 
 /// There is at most one least total.
-pub fn least_is_unique<C: Charge>() -> u8
+pub fn least_is_unique<C: Charge>()
     ensures { OneLeast C.scale }
-{
-    0
-}
+{}
 
 /// The least total is the cheapest of finitely many walks, which can be computed.
-pub fn least_is_computed<C: Charge>() -> u8
+pub fn least_is_computed<C: Charge>()
     ensures { ComputedLeast C.scale }
-{
-    0
-}
+{}
 
 /// The least total from 0 to 3 among five places, by computing it.
 pub fn five_places_least() -> u32

@@ -1,14 +1,17 @@
 -- Exits that are noted arc by arc are the last exits of a walk.
-use Rattle.std.proofs.Common.{◌≡◌, ℕ, ◌+◌, ◌<◌, true, false, cond, eqb, List, [], ◌∷◌, ◌++◌, length, get_or, take, replicate, Some, None, Option, sym, refl, ap, ◌∙◌, ⊎_elim}
-use Rattle.std.proofs.lemmas.Bool.{cases_lt}
-use Rattle.std.proofs.lemmas.List.{get_or-replicate, get_or_past, length-replicate, take_more}
+use Rattle.std.proofs.Common.{◌≡◌, ℕ, zero, suc, ◌+◌, ◌<◌, true, false, cond, eqb, List, [], ◌∷◌, ◌++◌, length, get_or, take, replicate, Some, None, Option, sym, refl, ap, ◌∙◌}
+use Rattle.std.specs.List.{slice_get}
+use Rattle.std.specs.Option.{option_flatten}
+use Rattle.std.proofs.lemmas.List.{take_more}
 use Rattle.walks.specs.declared.arcs.Arc.{Arc}
 use Rattle.walks.specs.Cutting.{last_exit}
 use Rattle.loop_cutting.specs.Exits.{noted}
 
--- a list of zeros has 0 at every place, and past its end
-pub zero_at : (n u : ℕ) → ◌≡◌ {A = ℕ} (get_or (replicate n 0) u 0) 0
-zero_at n u = ⊎_elim (λ h. get_or-replicate n u 0 0 h) (λ h. get_or_past (replicate n 0) u 0 (rw length-replicate h)) (cases_lt u n)
+-- a list of nothing has nothing at any place
+pub nothing_at : {X : Type 0} (n u : ℕ) → option_flatten (slice_get (replicate {A = Option X} n None) u) ≡ None
+nothing_at zero u = refl
+nothing_at (suc n) zero = refl
+nothing_at (suc n) (suc u) = nothing_at n u
 
 -- the last exit, where an arc comes before
 abbrev before : Arc → ℕ → Option Arc → Option Arc

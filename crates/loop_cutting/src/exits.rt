@@ -1,24 +1,29 @@
-ghost use Rattle.std.specs.Prelude.{◌≡◌, ℕ, ◌<◌, ◌≤◌, ◌++◌, map, length, drop, is_some, if◌then◌else◌, None, nat_eq, slice_index, slice_set};
+ghost use Rattle.std.specs.Prelude.{◌≡◌, ℕ, ◌++◌, map, length, drop, is_some, if◌then◌else◌, None, nat_eq, slice_get};
+ghost use Rattle.std.specs.Option.{option_flatten};
 ghost use Rattle.walks.specs.Cutting.{follow};
 ghost use Rattle.loop_cutting.specs.Exits.{exit_at, fits, noted, room_for};
 
+use crate::following::Following;
 use walks::Arc;
 
 /// For each of 2,048 places the arc that left it last.
 #[derive(Drop)]
 pub struct Exits {
-    heads: [u16; 2048],
-    roads: [u32; 2048],
+    exits: [Option<Exit>; 2048],
+}
+
+// Where the arc leads that left a place, and by which road.
+#[derive(Clone, Copy)]
+struct Exit {
+    head: u32,
+    road: u32,
 }
 
 impl Exits {
     pub fn new() -> Exits
         ensures { (u : ℕ) → exit_at result u ≡ None }
     {
-        Exits {
-            heads: no_heads(),
-            roads: [0; 2048],
-        }
+        Exits { exits: no_exits() }
     }
 
     /// No place has been left.
@@ -28,18 +33,20 @@ impl Exits {
         *self = Exits::new();
     }
 
-    /// Notes that an arc is taken; false where it is not between places that there is room for.
-    pub fn note(&mut self, arc: Arc) -> bool
-        ensures fits { result ≡ fits arc }
-        ensures exits { (u : ℕ) → exit_at self.new u ≡ (if result then noted (exit_at self.old) arc u else exit_at self.old u) }
+    /// Notes that an arc is taken; `None` where it is not between places that there is room for.
+    pub fn note(&mut self, arc: Arc) -> Option<()>
+        ensures fits { is_some result ≡ fits arc }
+        ensures exits { (u : ℕ) → exit_at self.new u ≡ (if is_some result then noted (exit_at self.old) arc u else exit_at self.old u) }
     {
         if arc.tail >= 2048 || arc.head >= 2048 {
-            return false;
+            return None;
         }
         let u = arc.tail as usize;
-        self.heads[u] = arc.head as u16 + 1;
-        self.roads[u] = arc.road;
-        true
+        self.exits[u] = Some(Exit {
+            head: arc.head,
+            road: arc.road,
+        });
+        Some(())
     }
 
     /// Writes the roads from a start by the exits to a goal, at most so many; `None` where the list is too short.
@@ -47,11 +54,11 @@ impl Exits {
         ensures count { result ≡ room_for (follow (exit_at self.now) goal most start) (length way.old) }
         ensures written { way.new ≡ (if is_some result then map (λ x. x.road) (follow (exit_at self.now) goal most start) ++ drop (length (follow (exit_at self.now) goal most start)) way.old else way.old) }
     {
-        let count = self.count_way(start, goal, most);
+        let count = Following::new(self, start, goal, most).count();
         if count > way.len() {
             return None;
         }
-        self.put_way(start, goal, most, way);
+        Following::new(self, start, goal, most).put_roads(way);
         Some(count)
     }
 
@@ -59,23 +66,16 @@ impl Exits {
     fn exit(&self, place: u32) -> Option<Arc>
         ensures { result ≡ exit_at self.now place }
     {
-        if place >= 2048 {
-            return None;
-        }
-        let u = place as usize;
-        let head = self.heads[u];
-        if head == 0 {
-            return None;
-        }
+        let exit = self.exits.get(place as usize).copied().flatten()?;
         Some(Arc {
             tail: place,
-            head: u32::from(head - 1),
-            road: self.roads[u],
+            head: exit.head,
+            road: exit.road,
         })
     }
 
-    // The arc to go on by; none at the goal.
-    fn onward(&self, here: u32, goal: u32) -> Option<Arc>
+    /// The arc to go on by; none at the goal.
+    pub(crate) fn onward(&self, here: u32, goal: u32) -> Option<Arc>
         ensures { result ≡ (if nat_eq here goal then None else exit_at self.now here) }
     {
         if here == goal {
@@ -83,49 +83,11 @@ impl Exits {
         }
         self.exit(here)
     }
-
-    // How many arcs lead from a start by the exits to a goal.
-    fn count_way(&self, start: u32, goal: u32, most: usize) -> usize
-        ensures { result ≡ length (follow (exit_at self.now) goal most start) }
-    {
-        let mut here = start;
-        for i in 0..most {
-            match self.onward(here, goal) {
-                Some(arc) => here = arc.head,
-                None => return i,
-            }
-        }
-        most
-    }
-
-    // Writes the roads of those arcs into a list that has room for them.
-    fn put_way(&self, start: u32, goal: u32, most: usize, way: &mut [u32])
-        requires { length (follow (exit_at self.now) goal most start) ≤ length way.old }
-        ensures { way.new ≡ map (λ x. x.road) (follow (exit_at self.now) goal most start) ++ drop (length (follow (exit_at self.now) goal most start)) way.old }
-    {
-        let mut here = start;
-        for i in 0..most {
-            match self.onward(here, goal) {
-                Some(arc) => {
-                    put_road(way, i, arc);
-                    here = arc.head;
-                }
-                None => return,
-            }
-        }
-    }
 }
 
-// A head at no place.
-fn no_heads() -> [u16; 2048]
-    ensures { (u : ℕ) → slice_index result u ≡ 0 }
+// No exit from any place.
+fn no_exits() -> [Option<Exit>; 2048]
+    ensures { (u : ℕ) → option_flatten (slice_get result u) ≡ None }
 {
-    [0; 2048]
-}
-
-fn put_road(way: &mut [u32], at: usize, arc: Arc)
-    requires { at < length way.old }
-    ensures { way.new ≡ slice_set way.old at arc.road }
-{
-    way[at] = arc.road;
+    [None; 2048]
 }

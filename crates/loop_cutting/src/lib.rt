@@ -1,11 +1,12 @@
 //! Cutting the loops of a walk, by last exits.
 #![tactic(auto)]
 
-ghost use Rattle.std.specs.Prelude.{◌≡◌, ℕ, true, ◌++◌, map, length, drop, is_some, if◌then◌else◌, None};
+ghost use Rattle.std.specs.Prelude.{◌≡◌, ℕ, ◌++◌, map, length, drop, is_some, if◌then◌else◌, None, IfSome};
 ghost use Rattle.walks.specs.Cutting.{last_exit, cut};
 ghost use Rattle.loop_cutting.specs.Exits.{exit_at, all_fit, room_for};
 
 mod exits;
+mod following;
 
 pub use exits::Exits;
 use walks::Arc;
@@ -22,22 +23,18 @@ pub fn cut_loops(
     ensures written { way.new ≡ (if is_some result then map (λ x. x.road) (cut start goal walk.now) ++ drop (length (cut start goal walk.now)) way.old else way.old) }
 {
     exits.clear();
-    if !note_walk(walk, exits) {
-        return None;
-    }
+    note_walk(walk, exits)?;
     exits.write_way(start, goal, walk.len(), way)
 }
 
-// Notes the arcs of a walk in order, where none is noted yet; false at the first that has no place here.
-fn note_walk(walk: &[Arc], exits: &mut Exits) -> bool
+// Notes the arcs of a walk in order, where none is noted yet; `None` at the first that has no place here.
+fn note_walk(walk: &[Arc], exits: &mut Exits) -> Option<()>
     requires { (u : ℕ) → exit_at exits.old u ≡ None }
-    ensures fits { result ≡ all_fit walk.now }
-    ensures last { result ≡ true → exit_at exits.new ≡ last_exit walk.now }
+    ensures fits { is_some result ≡ all_fit walk.now }
+    ensures last { IfSome result (λ _. exit_at exits.new ≡ last_exit walk.now) }
 {
     for arc in walk {
-        if !exits.note(*arc) {
-            return false;
-        }
+        exits.note(*arc)?;
     }
-    true
+    Some(())
 }

@@ -1,5 +1,5 @@
 -- What the checks of the header and the records say once they pass.
-use Rattle.std.proofs.Common.{◌≡◌, ℕ, ◌+◌, ◌-◌, ◌*◌, ◌<◌, ◌≤◌, List, length, None, arith}
+use Rattle.std.proofs.Common.{◌≡◌, ℕ, zero, suc, ◌+◌, ◌-◌, ◌*◌, ◌^◌, ◌<◌, ◌≤◌, List, length, None, lit<, arith}
 use Rattle.std.proofs.lemmas.Bool.Decides.{nat_tests}
 use Rattle.std.proofs.lemmas.Bool.{leb-true, ltb-true}
 use Rattle.roads.proofs.Firsts.{none_below}
@@ -39,3 +39,12 @@ module _ (bs : List ℕ) (fields : field_fault bs ≡ None) where
 
   pub mark_fits : (r : ℕ) → 0 < r → r ≤ road_count bs → mark_at bs r ≤ 1
   mark_fits r p l = let h = road_fine r p l in leb-true _ _ (grind arith)
+
+-- four hexadecimal digits are few
+pub codes_fit : (k : ℕ) → k ≤ 4 → 16 ^ k < 4294967296
+codes_fit zero l = lit< tt
+codes_fit (suc zero) l = lit< tt
+codes_fit (suc (suc zero)) l = lit< tt
+codes_fit (suc (suc (suc zero))) l = lit< tt
+codes_fit (suc (suc (suc (suc zero)))) l = lit< tt
+codes_fit (suc (suc (suc (suc (suc k))))) l = absurd (omega arith)

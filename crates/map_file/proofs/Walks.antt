@@ -1,8 +1,9 @@
 -- Chains that are followed road by road, with a table of the tails found so far.
-use Rattle.std.proofs.Common.{◌≡◌, ℕ, zero, suc, ◌+◌, ◌-◌, ◌<◌, ◌≤◌, true, false, cond, ◌||◌, eqb, ◌≢◌, List, [], ◌∷◌, ◌++◌, length, get_or, set, Some, None, count_by, Option, refl, ap, ◌∙◌, ⊎_elim, append_assoc, append-nil, add-one, arith}
-use Rattle.std.proofs.lemmas.Bool.{cases_eq, cases_Bool, ne_eqb}
+use Rattle.std.proofs.Common.{◌≡◌, ℕ, zero, suc, ◌+◌, ◌-◌, ◌<◌, ◌≤◌, Bool, true, false, cond, ◌||◌, eqb, ◌≢◌, List, [], ◌∷◌, ◌++◌, length, get_or, set, take, is_some, is_none, Some, None, count_by, Option, refl, sym, ap, ◌∙◌, ⊎_elim, append_assoc, append-nil, add-one, arith}
+use Rattle.std.proofs.Math.Seq.{take-set-lt}
+use Rattle.std.proofs.lemmas.Bool.{cases_eq, cases_Bool, ne_eqb, true≢false}
 use Rattle.std.proofs.lemmas.Bool.Decides.{nat_tests}
-use Rattle.std.proofs.lemmas.List.{length-append, get_or-set_same, get_or-set_other, length-set}
+use Rattle.std.proofs.lemmas.List.{length-append, get_or-set_same, get_or-set_other, get_or-take, length-set, length-take-le}
 use Rattle.std.proofs.lemmas.List.Sums.{sum_by-set, get_or-le-sum_by, count_by-le-length}
 use Rattle.roads.specs.declared.fault.Report.{Report}
 use Rattle.roads.specs.RoadLists.{has}
@@ -38,52 +39,70 @@ again_more seen (x ∷ xs) ys r e =
     (λ (f : has x seen ≡ false). let i = again_more (x ∷ seen) xs ys r (grind arith) in grind arith) (cases_Bool (has x seen))
 
 -- how many entries of a table are free
-abbrev pub free : List ℕ → ℕ
-free tails = count_by (λ t. eqb t 65535) tails
+abbrev pub free : List (Option ℕ) → ℕ
+free tails = count_by is_none tails
 
 -- one entry fewer is free
-pub free_less : (tails : List ℕ) (j r : ℕ) → j < 65535 → r < length tails → get_or tails r 0 ≡ 65535 → free (set tails r j) + 1 ≡ free tails
-free_less tails j r jl rl e =
-    let s = sum_by-set (λ t. cond (eqb t 65535) 1 0) tails r j 0 rl in
-    let js : eqb j 65535 ≡ false = ne_eqb j 65535 (omega arith) in
-    omega (arith, rw (e, js) at s)
+pub free_less : (tails : List (Option ℕ)) (j r : ℕ) → r < length tails → get_or tails r None ≡ None → free (set tails r (Some j)) + 1 ≡ free tails
+free_less tails j r rl e =
+    let s = sum_by-set (λ (t : Option ℕ). cond (is_none t) 1 0) tails r (Some j) None rl in
+    omega (arith, rw e at s)
+
+pub none_is : (o : Option ℕ) → is_none o ≡ true → o ≡ None
+none_is None e = refl
+none_is (Some x) e = absurd (true≢false (sym e))
+
+-- a road has a tail below j exactly where the chains below j met it
+some_or : (b : Bool) (t : Option ℕ) (j : ℕ) (c : Bool) → is_some t ≡ c → is_some (cond b (Some j) t) ≡ (c || b)
+some_or true t j true e = refl
+some_or true t j false e = refl
+some_or false t j true e = e
+some_or false t j false e = e
+
+pub tail_met : (bs : List ℕ) (j r : ℕ) → is_some (tail_below bs j r) ≡ has r (met bs j)
+unfolding tail_below met
+tail_met bs zero r = refl
+tail_met bs (suc j) r =
+    some_or (has r (chain_of bs j)) (tail_below bs j r) j (has r (met bs j)) (tail_met bs j r) ∙ sym (has_append r (met bs j) (chain_of bs j))
+
+-- 0 is on no chain
+chain_none : (bs : List ℕ) (limit r : ℕ) → has 0 (chain bs limit r) ≡ false
+unfolding chain
+chain_none bs zero r = refl
+chain_none bs (suc limit) r =
+    ⊎_elim (λ (z : r ≡ 0). rw z)
+    (λ (ne : r ≡ 0 → ⊥). rw (ne_eqb r 0 ne, ne_eqb 0 r (λ e. ne (sym e))) (chain_none bs limit (next_at bs r))) (cases_eq r 0)
+
+tail_zero : (bs : List ℕ) (j : ℕ) → tail_below bs j 0 ≡ None
+unfolding tail_below chain_of
+tail_zero bs zero = refl
+tail_zero bs (suc j) = rw (chain_none bs (road_count bs + 1) (first_at bs j)) (tail_zero bs j)
 
 -- along the chain of j: the roads that are done, and those that are left from `road` on
-pub record Walk (bs tails : List ℕ) (j road : ℕ) : Type 0 where
+pub record Walk (bs : List ℕ) (tails : List (Option ℕ)) (j road : ℕ) : Type 0 where
   pub done : List ℕ
   pub limit : ℕ
   pub is : chain_of bs j ≡ done ++ chain bs limit road
   pub sum : limit + length done ≡ road_count bs + 1
   pub fresh : again [] (met bs j ++ done) ≡ None
-  pub table : (r : ℕ) → 0 < r → r ≤ road_count bs → get_or tails r 0 ≡ cond (has r done) j (tail_below bs j r)
-  pub none : get_or tails 0 0 ≡ 65535
-  pub long : length tails ≡ road_count bs + 1
-  pub count : free tails + length done ≤ road_count bs + 1
+  pub table : (r : ℕ) → r ≤ road_count bs → get_or tails r None ≡ cond (has r done) (Some j) (tail_below bs j r)
+  pub none : get_or tails 0 None ≡ None
+  pub long : road_count bs < length tails
+  pub count : free (take (road_count bs + 1) tails) + length done ≤ road_count bs + 1
 
-pub walk_start : (bs tails : List ℕ) (j : ℕ) → length tails ≡ road_count bs + 1 → get_or tails 0 0 ≡ 65535 → TailsBelow bs j tails → again [] (met bs j) ≡ None → Walk bs tails j (first_at bs j)
+pub walk_start : (bs : List ℕ) (tails : List (Option ℕ)) (j : ℕ) → road_count bs < length tails → TailsBelow bs j tails → again [] (met bs j) ≡ None → Walk bs tails j (first_at bs j)
 unfolding chain_of
-walk_start bs tails j l z t a = record {
+walk_start bs tails j l t a = record {
   done = [];
   limit = road_count bs + 1;
   is = refl;
   sum = omega arith;
   fresh = rw append-nil a;
   table = t;
-  none = z;
+  none = t 0 (omega arith) ∙ tail_zero bs j;
   long = l;
-  count = omega (arith, count_by-le-length (λ x. eqb x 65535) tails);
+  count = let m = road_count bs + 1 in omega (arith, count_by-le-length is_none (take m tails), length-take-le m tails (omega arith));
 }
-
--- a tail is a junction below j where the road was met, and 65535 elsewhere
-pub tail_free : (bs : List ℕ) (j r : ℕ) → j ≤ 65535 → eqb (tail_below bs j r) 65535 ≡ true → has r (met bs j) ≡ false
-unfolding tail_below met
-tail_free bs zero r l e = refl
-tail_free bs (suc j) r l e = let i = tail_free bs j r (omega arith) in let s = has_append r (met bs j) (chain_of bs j) in grind (arith, nat_tests)
-
-pub tail_taken : (bs : List ℕ) (j r : ℕ) → j ≤ 65535 → eqb (tail_below bs j r) 65535 ≡ false → has r (met bs j) ≡ true
-unfolding tail_below met
-tail_taken bs zero r l e = grind (arith, nat_tests)
-tail_taken bs (suc j) r l e = let i = tail_taken bs j r (omega arith) in let s = has_append r (met bs j) (chain_of bs j) in grind (arith, nat_tests)
 
 chain_more : (bs : List ℕ) (limit r : ℕ) → 0 < limit → 0 < r → chain bs limit r ≡ r ∷ chain bs (limit - 1) (next_at bs r)
 unfolding chain
@@ -99,70 +118,73 @@ met_more : (bs : List ℕ) (j : ℕ) → met bs (j + 1) ≡ met bs j ++ chain_of
 unfolding met
 met_more bs j = rw add-one
 
-tail_more : (bs : List ℕ) (j r : ℕ) → tail_below bs (j + 1) r ≡ cond (has r (chain_of bs j)) j (tail_below bs j r)
+tail_more : (bs : List ℕ) (j r : ℕ) → tail_below bs (j + 1) r ≡ cond (has r (chain_of bs j)) (Some j) (tail_below bs j r)
 unfolding tail_below
 tail_more bs j r = rw add-one
 
 -- there is a step left: entry 0 of the table is never taken
-walk_room : (bs tails : List ℕ) (j r : ℕ) → (w : Walk bs tails j r) → 0 < w.limit
+walk_room : (bs : List ℕ) (tails : List (Option ℕ)) (j r : ℕ) → (w : Walk bs tails j r) → 0 < w.limit
 walk_room bs tails j r w =
-    let h : 0 < length tails = omega (arith, w.long) in
-    let p = get_or-le-sum_by (λ t. cond (eqb t 65535) 1 0) tails 0 0 h in
-    let q : 1 ≤ free tails = rw w.none at p in
+    let m = road_count bs + 1 in
+    let l = length-take-le m tails (omega (arith, w.long)) in
+    let p = get_or-le-sum_by (λ (t : Option ℕ). cond (is_none t) 1 0) (take m tails) 0 None (omega (arith, l)) in
+    let z : get_or (take m tails) 0 None ≡ None = get_or-take m tails 0 None (omega arith) ∙ w.none in
+    let q : 1 ≤ free (take m tails) = rw z at p in
     omega (arith, q, w.count, w.sum)
 
 -- what the table says of a road is whether it was met
-walk_not : (bs done : List ℕ) (j r t : ℕ) → j < 65535 → t ≡ cond (has r done) j (tail_below bs j r) → t ≡ 65535 → has r (met bs j ++ done) ≡ false
-walk_not bs done j r t jl e h =
-    let a = tail_free bs j r (omega arith) in let s = has_append r (met bs j) done in grind (arith, nat_tests)
+pub walk_has : (bs : List ℕ) (tails : List (Option ℕ)) (j road r : ℕ) → (w : Walk bs tails j road) → r ≤ road_count bs → is_some (get_or tails r None) ≡ has r (met bs j ++ w.done)
+walk_has bs tails j road r w l =
+    ap is_some (w.table r l)
+    ∙ some_or (has r w.done) (tail_below bs j r) j (has r (met bs j)) (tail_met bs j r)
+    ∙ sym (has_append r (met bs j) w.done)
 
-walk_was : (bs done : List ℕ) (j r t : ℕ) → j < 65535 → t ≡ cond (has r done) j (tail_below bs j r) → (t ≡ 65535 → ⊥) → has r (met bs j ++ done) ≡ true
-walk_was bs done j r t jl e h =
-    let a = tail_taken bs j r (omega arith) in let s = has_append r (met bs j) done in grind (arith, nat_tests)
-
-table_step : (done tails : List ℕ) (j r k o : ℕ) → r < length tails → get_or tails k 0 ≡ cond (has k done) j o → get_or (set tails r j) k 0 ≡ cond (has k (done ++ r ∷ [])) j o
+table_step : (done : List ℕ) (tails : List (Option ℕ)) (j r k : ℕ) (o : Option ℕ) → r < length tails → get_or tails k None ≡ cond (has k done) (Some j) o → get_or (set tails r (Some j)) k None ≡ cond (has k (done ++ r ∷ [])) (Some j) o
 table_step done tails j r k o l e =
     let s = has_append k done (r ∷ []) in
-    ⊎_elim (λ (h : k ≡ r). let g = get_or-set_same tails r j 0 l in grind (arith, nat_tests))
-    (λ (h : k ≡ r → ⊥). let g = get_or-set_other tails r k j 0 h in grind (arith, nat_tests)) (cases_eq k r)
+    ⊎_elim (λ (h : k ≡ r). let g = get_or-set_same tails r (Some j) None l in grind (arith, nat_tests))
+    (λ (h : k ≡ r → ⊥). let g = get_or-set_other tails r k (Some j) None h in grind (arith, nat_tests)) (cases_eq k r)
 
-pub walk_step : (bs tails : List ℕ) (j r : ℕ) → j < 65535 → 0 < r → r ≤ road_count bs → get_or tails r 0 ≡ 65535 → Walk bs tails j r → Walk bs (set tails r j) j (next_at bs r)
-walk_step bs tails j r jl r0 rm e w =
+pub walk_step : (bs : List ℕ) (tails : List (Option ℕ)) (j r : ℕ) → 0 < r → r ≤ road_count bs → get_or tails r None ≡ None → Walk bs tails j r → Walk bs (set tails r (Some j)) j (next_at bs r)
+walk_step bs tails j r r0 rm e w =
+    let m = road_count bs + 1 in
     let room = walk_room bs tails j r w in
     let rl : r < length tails = omega (arith, w.long) in
-    let c = free_less tails j r jl rl e in
-    let here = w.table r r0 rm in
+    let l = length-take-le m tails (omega (arith, w.long)) in
+    let c = free_less (take m tails) j r (omega (arith, l)) (get_or-take m tails r None (omega arith) ∙ e) in
+    let t = take-set-lt m tails r (Some j) (omega arith) in
+    let new : has r (met bs j ++ w.done) ≡ false = sym (walk_has bs tails j r r w rm) ∙ ap is_some e in
     record {
       done = w.done ++ r ∷ [];
       limit = w.limit - 1;
       is = w.is ∙ (rw (chain_more bs w.limit r room r0, append_assoc));
       sum = simp length-append (omega (arith, room, w.sum));
-      fresh = rw (← append_assoc) (again_new [] (met bs j ++ w.done) r w.fresh (walk_not bs w.done j r _ jl here e));
-      table = λ k k0 km. table_step w.done tails j r k (tail_below bs j k) rl (w.table k k0 km);
+      fresh = rw (← append_assoc) (again_new [] (met bs j ++ w.done) r w.fresh new);
+      table = λ k km. table_step w.done tails j r k (tail_below bs j k) rl (w.table k km);
       none = let ne : 0 ≢ r = omega arith in rw get_or-set_other w.none;
       long = rw length-set w.long;
-      count = simp length-append (omega (arith, c, w.count));
+      count = rw t (simp length-append (omega (arith, c, w.count)));
     }
 
 -- a road that has a tail is the first met again
-pub walk_met : (bs tails : List ℕ) (j r : ℕ) → j < 65535 → 0 < r → r ≤ road_count bs → (get_or tails r 0 ≡ 65535 → ⊥) → Walk bs tails j r → again [] (met bs (j + 1)) ≡ Some r
-walk_met bs tails j r jl r0 rm e w =
+pub walk_met : (bs : List ℕ) (tails : List (Option ℕ)) (j r : ℕ) → 0 < r → r ≤ road_count bs → is_some (get_or tails r None) ≡ true → Walk bs tails j r → again [] (met bs (j + 1)) ≡ Some r
+walk_met bs tails j r r0 rm e w =
     let m = chain_more bs w.limit r (walk_room bs tails j r w) r0 in
-    let a = again_old [] (met bs j ++ w.done) (chain bs (w.limit - 1) (next_at bs r)) r w.fresh (walk_was bs w.done j r _ jl (w.table r r0 rm) e) in
+    let a = again_old [] (met bs j ++ w.done) (chain bs (w.limit - 1) (next_at bs r)) r w.fresh (sym (walk_has bs tails j r r w rm) ∙ e) in
     let s = append_assoc (met bs j) w.done (r ∷ chain bs (w.limit - 1) (next_at bs r)) in
     let l = met_more bs j in
     rw (l, w.is, m, ← s) a
 
-pub walk_end : (bs tails : List ℕ) (j : ℕ) → Walk bs tails j 0 → again [] (met bs (j + 1)) ≡ None
+pub walk_end : (bs : List ℕ) (tails : List (Option ℕ)) (j : ℕ) → Walk bs tails j 0 → again [] (met bs (j + 1)) ≡ None
 walk_end bs tails j w =
     let l = met_more bs j in
     let e = chain_end bs w.limit in
     rw (l, w.is, e, append-nil) w.fresh
 
-pub walk_tails : (bs tails : List ℕ) (j : ℕ) → Walk bs tails j 0 → TailsBelow bs (j + 1) tails
-walk_tails bs tails j w r r0 rm =
+pub walk_tails : (bs : List ℕ) (tails : List (Option ℕ)) (j : ℕ) → Walk bs tails j 0 → TailsBelow bs (j + 1) tails
+walk_tails bs tails j w r rm =
     let e = chain_end bs w.limit in
-    rw (tail_more bs j r, w.is, e, append-nil) (w.table r r0 rm)
+    rw (tail_more bs j r, w.is, e, append-nil) (w.table r rm)
 
 -- a road that is met again stays the first as more chains are followed
 again_later : (bs : List ℕ) (i k r : ℕ) → i < k → again [] (met bs (i + 1)) ≡ Some r → again [] (met bs k) ≡ Some r

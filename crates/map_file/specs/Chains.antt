@@ -1,5 +1,5 @@
 -- The chains of roads, one for each junction, and the whole check of a map file.
-use Rattle.std.specs.Prelude.{◌≡◌, ℕ, zero, suc, ◌+◌, ◌<◌, ◌≤◌, cond, List, [], ◌∷◌, ◌++◌, Some, None, Option, ◌==◌, slice_index}
+use Rattle.std.specs.Prelude.{◌≡◌, ℕ, zero, suc, ◌+◌, ◌≤◌, cond, List, [], ◌∷◌, ◌++◌, Some, None, Option, ◌==◌, slice_index_or, unwrap_or}
 use Rattle.roads.specs.declared.fault.Part.TheVariants.{Map}
 use Rattle.roads.specs.declared.fault.Report.{Report}
 use Rattle.roads.specs.Faults.{unless, or_else, first_below}
@@ -26,19 +26,20 @@ abbrev pub again : List ℕ → List ℕ → Option ℕ
 again seen [] = None
 again seen (r ∷ rs) = cond (has r seen) (Some r) (again (r ∷ seen) rs)
 
--- the junction below j whose chain has r; 65535 where there is none
-unfoldable pub tail_below : List ℕ → ℕ → ℕ → ℕ
-tail_below bs zero r = 65535
-tail_below bs (suc j) r = cond (has r (chain_of bs j)) j (tail_below bs j r)
+-- the junction below j whose chain has r, where there is one
+unfoldable pub tail_below : List ℕ → ℕ → ℕ → Option ℕ
+tail_below bs zero r = None
+tail_below bs (suc j) r = cond (has r (chain_of bs j)) (Some j) (tail_below bs j r)
 
+-- a road's tail, the junction whose chain has it; 65535, which is no junction, where none has
 abbrev pub tail_at : List ℕ → ℕ → ℕ
-tail_at bs r = tail_below bs (junction_count bs) r
+tail_at bs r = unwrap_or (tail_below bs (junction_count bs) r) 65535
 
--- a table has at each road's number the junction below j whose chain has the road
-abbrev pub TailsBelow : List ℕ → ℕ → List ℕ → Type 0
-TailsBelow bs j table = (r : ℕ) → 0 < r → r ≤ road_count bs → slice_index table r ≡ tail_below bs j r
+-- a table has at each road's number the junction below j whose chain has the road; at 0, which is no road, none
+abbrev pub TailsBelow : List ℕ → ℕ → List (Option ℕ) → Type 0
+TailsBelow bs j table = (r : ℕ) → r ≤ road_count bs → slice_index_or table r None ≡ tail_below bs j r
 
-abbrev pub Tails : List ℕ → List ℕ → Type 0
+abbrev pub Tails : List ℕ → List (Option ℕ) → Type 0
 Tails bs table = TailsBelow bs (junction_count bs) table
 
 abbrev pub met_again : Option ℕ → Option Report

@@ -1,102 +1,107 @@
 //! The chains of roads, followed junction by junction.
-ghost use Rattle.std.specs.Prelude.{◌≡◌, ℕ, ◌+◌, ◌<◌, ◌≤◌, not, [], length, None, OnOk, ◌==◌, slice_index};
+ghost use Rattle.std.specs.Prelude.{◌≡◌, ◌+◌, ◌<◌, ◌≤◌, [], None, Some, IfOk, OnOk, is_ok, is_none, position, slice_index_or, slice_set, if◌then◌else◌};
 ghost use Rattle.roads.specs.declared.fault.Part.TheVariants.{Map};
 ghost use Rattle.roads.specs.Faults.{reported, unless, first_below};
-ghost use Rattle.map_file.specs.Layout.{junction_count, road_count};
-ghost use Rattle.map_file.specs.Checks.{head_fault, field_fault};
+ghost use Rattle.map_file.specs.Layout.{junction_count, road_count, first_at, next_at};
 ghost use Rattle.map_file.specs.Chains.{again, met, met_again, unmet_fault, TailsBelow, Tails, chain_fault};
 
 use super::fields::read_field;
-use super::refused;
-use roads::fault::{Fault, Refusal};
+use super::header::Records;
+use super::records::{read_junction, read_road};
+use roads::fault::{Fault, Part, Refusal};
 
-// Stands in the table of tails where no chain has met the road yet.
-pub(crate) const NONE: u16 = 65535;
+/// The tail of each road at its number, where one is known. Entry 0 is no road's.
+pub type TailTable = [Option<u16>; 4097];
 
-// Refused where a road has a tail.
-fn check_free(tails: &[u16], road: u32) -> Result<(), Fault>
-    requires { road < length tails.now }
-    ensures { reported result ≡ unless (slice_index tails.now road == 65535) 4 road Map }
+// Gives a road its tail; refused where it has one.
+fn give_tail(tails: &mut TailTable, road: u16, tail: u16) -> Result<(), Fault>
+    requires { road < 4097 }
+    ensures told { reported result ≡ unless (is_none (slice_index_or tails.old road None)) 4 road Map }
+    ensures given { tails.new ≡ (if is_ok result then slice_set tails.old road (Some tail) else tails.old) }
 {
-    if tails[road as usize] != NONE {
-        return Err(refused(Refusal::Chain, road));
+    if tails[usize::from(road)].is_some() {
+        return Err(Fault::new(Refusal::Chain, usize::from(road), Part::Map));
     }
+    tails[usize::from(road)] = Some(tail);
     Ok(())
 }
 
-// Refused where a road has no tail.
-fn check_taken(tails: &[u16], road: u32) -> Result<(), Fault>
-    requires { road < length tails.now }
-    ensures { reported result ≡ unless (not (slice_index tails.now road == 65535)) 4 road Map }
+// Where the first road without a tail stands in a list.
+fn first_unmet(tails: &[Option<u16>]) -> Option<usize>
+    ensures { result ≡ position is_none tails.now }
 {
-    if tails[road as usize] == NONE {
-        return Err(refused(Refusal::Chain, road));
-    }
-    Ok(())
+    tails.iter().position(|tail| tail.is_none())
 }
 
-// Gives each road on the chain of j the tail j; refused at the first road that has a tail.
-fn follow_chain(bytes: &[u8], tails: &mut [u16], j: u16) -> Result<(), Fault>
-    requires head { head_fault bytes.now ≡ None }
-    requires fields { field_fault bytes.now ≡ None }
-    requires junction { j < junction_count bytes.now }
-    requires long { length tails.old ≡ road_count bytes.now + 1 }
-    requires zero { slice_index tails.old 0 ≡ 65535 }
-    requires tails { TailsBelow bytes.now j tails.old }
-    requires fresh { again [] (met bytes.now j) ≡ None }
-    ensures told { reported result ≡ met_again (again [] (met bytes.now (j + 1))) }
-    ensures tails { OnOk result (TailsBelow bytes.now (j + 1) tails.new) }
-    ensures zero { slice_index tails.new 0 ≡ 65535 }
-{
-    let n = u32::from(read_field(bytes, 0));
-    let mut road = u32::from(read_field(bytes, 6 + 4 * u32::from(j) + 2));
-    while road != 0 {
-        check_free(tails, road)?;
-        tails[road as usize] = j;
-        road = u32::from(read_field(bytes, 6 + 4 * n + 12 * (road - 1) + 2));
+impl Records<'_> {
+    // The first road of a junction's chain, or 0.
+    fn first(&self, junction: u16) -> u16
+        requires { junction < junction_count self.now.bytes.now }
+        ensures { result ≡ first_at self.now.bytes.now junction }
+    {
+        read_junction(self.bytes, u32::from(junction)).map_or(0, |record| record.first)
     }
-    Ok(())
-}
 
-// Gives each road its tail, chain by chain; refused at the first road that is met again.
-fn follow_chains(bytes: &[u8], tails: &mut [u16]) -> Result<(), Fault>
-    requires head { head_fault bytes.now ≡ None }
-    requires fields { field_fault bytes.now ≡ None }
-    requires long { length tails.old ≡ road_count bytes.now + 1 }
-    requires blank { (r : ℕ) → r ≤ road_count bytes.now → slice_index tails.old r ≡ 65535 }
-    ensures told { reported result ≡ met_again (again [] (met bytes.now (junction_count bytes.now))) }
-    ensures tails { OnOk result (Tails bytes.now tails.new) }
-{
-    let n = read_field(bytes, 0);
-    for j in 0..n {
-        follow_chain(bytes, tails, j)?;
+    // The next road of a road's chain, or 0.
+    fn next(&self, road: u16) -> u16
+        requires some { 0 < road }
+        requires known { road ≤ road_count self.now.bytes.now }
+        ensures { result ≡ next_at self.now.bytes.now road }
+    {
+        read_road(self.bytes, u32::from(road)).map_or(0, |record| record.next)
     }
-    Ok(())
-}
 
-// Refused at the lowest road that has no tail.
-fn check_met(bytes: &[u8], tails: &[u16]) -> Result<(), Fault>
-    requires head { head_fault bytes.now ≡ None }
-    requires long { length tails.now ≡ road_count bytes.now + 1 }
-    requires tails { Tails bytes.now tails.now }
-    ensures { reported result ≡ first_below (unmet_fault (met bytes.now (junction_count bytes.now))) (road_count bytes.now) }
-{
-    let m = u32::from(read_field(bytes, 2));
-    for i in 0..m {
-        check_taken(tails, i + 1)?;
+    // Gives each road on a junction's chain the junction for its tail; refused at the first road that has a tail.
+    #[tactic(auto, using(crate::proofs::Walks::walk_tails))]
+    fn follow_chain(&self, tails: &mut TailTable, junction: u16) -> Result<(), Fault>
+        requires junction { junction < junction_count self.now.bytes.now }
+        requires tails { TailsBelow self.now.bytes.now junction tails.old }
+        requires fresh { again [] (met self.now.bytes.now junction) ≡ None }
+        ensures told { reported result ≡ met_again (again [] (met self.now.bytes.now (junction + 1))) }
+        ensures tails { OnOk result (TailsBelow self.now.bytes.now (junction + 1) tails.new) }
+    {
+        let mut road = self.first(junction);
+        // Kept: a chain is followed from road to road, and no index is counted; an iterator over it would hold this loop once more.
+        while road != 0 {
+            give_tail(tails, road, junction)?;
+            road = self.next(road);
+        }
+        Ok(())
     }
-    Ok(())
-}
 
-// Every road is on one chain, once; the table then has the tail of each.
-pub(crate) fn check_chains(bytes: &[u8], tails: &mut [u16]) -> Result<(), Fault>
-    requires head { head_fault bytes.now ≡ None }
-    requires fields { field_fault bytes.now ≡ None }
-    requires long { length tails.old ≡ road_count bytes.now + 1 }
-    requires blank { (r : ℕ) → r ≤ road_count bytes.now → slice_index tails.old r ≡ 65535 }
-    ensures told { reported result ≡ chain_fault bytes.now }
-    ensures tails { OnOk result (Tails bytes.now tails.new) }
-{
-    follow_chains(bytes, tails)?;
-    check_met(bytes, tails)
+    // The tail of each road; refused at the first road that is met again.
+    #[tactic(auto, using(crate::proofs::Walks::fault_later))]
+    fn find_tails(&self) -> Result<TailTable, Fault>
+        ensures told { reported result ≡ met_again (again [] (met self.now.bytes.now (junction_count self.now.bytes.now))) }
+        ensures tails { IfOk result (Tails self.now.bytes.now) }
+    {
+        let mut tails = [None; 4097];
+        for junction in 0..read_field(self.bytes, 0) {
+            self.follow_chain(&mut tails, junction)?;
+        }
+        Ok(tails)
+    }
+
+    // Refused at the lowest road that has no tail.
+    fn check_met(&self, tails: &TailTable) -> Result<(), Fault>
+        requires { Tails self.now.bytes.now tails.now }
+        ensures { reported result ≡ first_below (unmet_fault (met self.now.bytes.now (junction_count self.now.bytes.now))) (road_count self.now.bytes.now) }
+    {
+        let m = usize::from(read_field(self.bytes, 2));
+        match first_unmet(&tails[1..m + 1]) {
+            Some(i) => Err(Fault::new(Refusal::Chain, i + 1, Part::Map)),
+            None => Ok(()),
+        }
+    }
+
+    // Every road is on one chain, once: the tail of each.
+    #[tactic(auto, unfolding(crate::specs::Chains::chain_fault))]
+    pub(crate) fn check_chains(&self) -> Result<TailTable, Fault>
+        ensures told { reported result ≡ chain_fault self.now.bytes.now }
+        ensures tails { IfOk result (Tails self.now.bytes.now) }
+    {
+        let tails = self.find_tails()?;
+        self.check_met(&tails)?;
+        Ok(tails)
+    }
 }

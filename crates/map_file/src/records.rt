@@ -1,106 +1,79 @@
-//! The header and the records, in the order of the file.
-ghost use Rattle.std.specs.Prelude.{◌≡◌, ◌+◌, ◌*◌, ◌^◌, ◌<◌, ◌≤◌, length, None};
-ghost use Rattle.roads.specs.Faults.{reported, first_below};
-ghost use Rattle.map_file.specs.Layout.{junction_count, road_count};
-ghost use Rattle.map_file.specs.Checks.{head_fault, junction_fault, record_fault, road_fault, field_fault};
+//! The records of junctions and roads.
+ghost use Rattle.std.specs.Prelude.{◌≡◌, ◌+◌, ◌<◌};
+ghost use Rattle.map_file.specs.Layout.{field};
+ghost use Rattle.map_file.specs.Records.{junction_of, place_of, road_of};
 
-use super::fields::read_field;
-use super::refused;
-use roads::fault::{Fault, Refusal};
+use super::fields::{junction_count, read_field, road_count};
 
-pub(crate) fn check_head(bytes: &[u8]) -> Result<(), Fault>
-    ensures { reported result ≡ head_fault bytes.now }
-{
-    if bytes.len() < 6 {
-        return Err(refused(Refusal::Length, 0));
-    }
-    let n = read_field(bytes, 0) as usize;
-    let m = read_field(bytes, 2) as usize;
-    if n > 2048 || m > 4096 || bytes[4] > 4 || bytes[5] != 0 {
-        return Err(refused(Refusal::Limits, 0));
-    }
-    if bytes.len() != 6 + 4 * n + 12 * m {
-        return Err(refused(Refusal::Length, 0));
-    }
-    Ok(())
+/// A junction as a file has it: its code, and the first road of its chain or 0.
+#[derive(Clone, Copy, PartialEq, Eq, Debug)]
+pub struct JunctionRecord {
+    pub code: u16,
+    pub first: u16,
 }
 
-// How many codes of so many hexadecimal digits there are.
-fn codes_of(digits: u8) -> u32
-    requires { digits ≤ 4 }
-    ensures { result ≡ 16 ^ digits }
+/// A road as a file has it: its head, the next road of its chain or 0, its measures, and its mark.
+#[derive(Clone, Copy, PartialEq, Eq, Debug)]
+pub struct RoadRecord {
+    pub head: u16,
+    pub next: u16,
+    pub seconds: u16,
+    pub metres: u16,
+    pub limit: u16,
+    // Kept: the field as it is, which is read before it is known to be 0 or 1.
+    pub mark: u16,
+}
+
+// The record of a junction that begins at an offset.
+pub(crate) fn junction_at(bytes: &[u8], at: u32) -> JunctionRecord
+    requires { at < 2000000 }
+    ensures { result ≡ record { code = field bytes.now at; first = field bytes.now (at + 2) } }
 {
-    match digits {
-        0 => 1,
-        1 => 16,
-        2 => 256,
-        3 => 4096,
-        _ => 65536,
+    JunctionRecord {
+        code: read_field(bytes, at),
+        first: read_field(bytes, at + 2),
     }
 }
 
-fn check_junction(bytes: &[u8], j: u32) -> Result<(), Fault>
-    requires { (head_fault bytes.now ≡ None) × (j < junction_count bytes.now) }
-    ensures { reported result ≡ junction_fault bytes.now j }
+// The record of a road that begins at an offset.
+pub(crate) fn road_at(bytes: &[u8], at: u32) -> RoadRecord
+    requires { at < 2000000 }
+    ensures { result ≡ record { head = field bytes.now at; next = field bytes.now (at + 2); seconds = field bytes.now (at + 4); metres = field bytes.now (at + 6); limit = field bytes.now (at + 8); mark = field bytes.now (at + 10) } }
 {
-    let at = 6 + 4 * j;
-    let code = u32::from(read_field(bytes, at));
-    if code >= codes_of(bytes[4]) {
-        return Err(refused(Refusal::Field, at));
+    RoadRecord {
+        head: read_field(bytes, at),
+        next: read_field(bytes, at + 2),
+        seconds: read_field(bytes, at + 4),
+        metres: read_field(bytes, at + 6),
+        limit: read_field(bytes, at + 8),
+        mark: read_field(bytes, at + 10),
     }
-    let first = read_field(bytes, at + 2);
-    if first > read_field(bytes, 2) {
-        return Err(refused(Refusal::Field, at + 2));
-    }
-    Ok(())
 }
 
-fn check_road(bytes: &[u8], at: u32) -> Result<(), Fault>
-    requires { (head_fault bytes.now ≡ None) × (at + 12 ≤ length bytes.now) }
-    ensures { reported result ≡ record_fault bytes.now at }
+/// The record of a junction; `None` where there is no such junction.
+pub fn read_junction(bytes: &[u8], junction: u32) -> Option<JunctionRecord>
+    ensures { result ≡ junction_of bytes.now junction }
 {
-    let head = read_field(bytes, at);
-    if head >= read_field(bytes, 0) {
-        return Err(refused(Refusal::Field, at));
+    if junction >= junction_count(bytes) {
+        return None;
     }
-    let next = read_field(bytes, at + 2);
-    if next > read_field(bytes, 2) {
-        return Err(refused(Refusal::Field, at + 2));
-    }
-    let mark = read_field(bytes, at + 10);
-    if mark > 1 {
-        return Err(refused(Refusal::Field, at + 10));
-    }
-    Ok(())
+    Some(junction_at(bytes, 6 + 4 * junction))
 }
 
-fn check_junctions(bytes: &[u8]) -> Result<(), Fault>
-    requires { head_fault bytes.now ≡ None }
-    ensures { reported result ≡ first_below (junction_fault bytes.now) (junction_count bytes.now) }
+/// Where the record of a road begins; `None` where there is no such road.
+pub fn road_place(bytes: &[u8], road: u32) -> Option<u32>
+    ensures { result ≡ place_of bytes.now road }
 {
-    let n = u32::from(read_field(bytes, 0));
-    for j in 0..n {
-        check_junction(bytes, j)?;
+    if !(1..=road_count(bytes)).contains(&road) {
+        return None;
     }
-    Ok(())
+    Some(6 + 4 * junction_count(bytes) + 12 * (road - 1))
 }
 
-fn check_roads(bytes: &[u8]) -> Result<(), Fault>
-    requires { head_fault bytes.now ≡ None }
-    ensures { reported result ≡ first_below (road_fault bytes.now) (road_count bytes.now) }
+/// The record of a road; `None` where there is no such road.
+pub fn read_road(bytes: &[u8], road: u32) -> Option<RoadRecord>
+    ensures { result ≡ road_of bytes.now road }
 {
-    let n = u32::from(read_field(bytes, 0));
-    let m = u32::from(read_field(bytes, 2));
-    for i in 0..m {
-        check_road(bytes, 6 + 4 * n + 12 * i)?;
-    }
-    Ok(())
-}
-
-pub(crate) fn check_fields(bytes: &[u8]) -> Result<(), Fault>
-    requires { head_fault bytes.now ≡ None }
-    ensures { reported result ≡ field_fault bytes.now }
-{
-    check_junctions(bytes)?;
-    check_roads(bytes)
+    let at = road_place(bytes, road)?;
+    Some(road_at(bytes, at))
 }

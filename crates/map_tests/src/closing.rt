@@ -6,32 +6,24 @@ use roads::Roads;
 use roads::fault::{Fault, Part, Report};
 use std::test::Fail;
 
-fn says(answer: Result<(), Fault>, number: u8, road: usize, part: Part) -> Result<(), Fail> {
-    match answer {
-        Ok(()) => Err(Fail::new("accepted")),
-        Err(fault) => check_eq(
-            fault.report(),
-            Report {
-                number,
-                place: road,
-                part,
-            },
-        ),
-    }
+fn says(answer: Result<(), Fault>, number: u8, place: usize, part: Part) -> Result<(), Fail> {
+    let Err(fault) = answer else {
+        return Err(Fail::new("accepted"));
+    };
+    check_eq(
+        Report::from(fault),
+        Report {
+            number,
+            place,
+            part,
+        },
+    )
 }
 
 fn shows<R: Roads>(roads: &R, open: [bool; 5]) -> Result<(), Fail> {
-    for (road, is_open) in [
-        (1, open[0]),
-        (2, open[1]),
-        (3, open[2]),
-        (4, open[3]),
-        (5, open[4]),
-    ] {
-        match roads.facts(road) {
-            Some(facts) => check_eq(facts.open, is_open)?,
-            None => return Err(Fail::new("no road")),
-        }
+    for (road, is_open) in (1..).zip(open) {
+        let facts = roads.facts(road).ok_or_else(|| Fail::new("no road"))?;
+        check_eq(facts.open, is_open)?;
     }
     Ok(())
 }

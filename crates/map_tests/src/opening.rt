@@ -100,8 +100,8 @@ fn first_bad_field(rt: HostRuntime) -> Result<(), Fail> {
         (Field::Mark(5), 2),
         (Field::Next(4), 4),
     ];
-    for i in 0..10 {
-        worked_refuses(rt.alloc(), &changes[i..], 3, places[i])?;
+    for (i, place) in places.iter().enumerate() {
+        worked_refuses(rt.alloc(), &changes[i..], 3, *place)?;
     }
     Ok(())
 }

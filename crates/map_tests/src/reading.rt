@@ -180,7 +180,7 @@ fn refusal_numbers() -> Result<(), Fail> {
         (Refusal::Line, 14),
     ];
     for (refusal, number) in refusals {
-        check_eq(refusal.number(), number)?;
+        check_eq(u8::from(refusal), number)?;
     }
     Ok(())
 }

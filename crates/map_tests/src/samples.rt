@@ -1,36 +1,21 @@
 //! Map files made for the tests, and checks of what opening says of them.
 use chained_map::{ChainedMap, RefusedMap};
+use map_file::{JunctionRecord, RoadRecord};
 use roads::fault::{Part, Report};
 use std::alloc::{AllocError, Global};
 use std::fmt::Debug;
 use std::test::Fail;
 
-#[derive(Clone, Copy)]
-pub struct Junction {
-    pub code: u16,
-    pub first: u16,
-}
-
-#[derive(Clone, Copy)]
-pub struct Road {
-    pub head: u16,
-    pub next: u16,
-    pub seconds: u16,
-    pub metres: u16,
-    pub limit: u16,
-    pub mark: u16,
-}
-
 // The worked map has one level. Its junctions 0 to 3 have the chains 1 and 3, 2, 4, and 5.
-const JUNCTIONS: [Junction; 4] = [
-    Junction { code: 0, first: 1 },
-    Junction { code: 0, first: 2 },
-    Junction { code: 1, first: 4 },
-    Junction { code: 1, first: 5 },
+const JUNCTIONS: [JunctionRecord; 4] = [
+    JunctionRecord { code: 0, first: 1 },
+    JunctionRecord { code: 0, first: 2 },
+    JunctionRecord { code: 1, first: 4 },
+    JunctionRecord { code: 1, first: 5 },
 ];
 
-const ROADS: [Road; 5] = [
-    Road {
+const ROADS: [RoadRecord; 5] = [
+    RoadRecord {
         head: 1,
         next: 3,
         seconds: 10,
@@ -38,7 +23,7 @@ const ROADS: [Road; 5] = [
         limit: 180,
         mark: 0,
     },
-    Road {
+    RoadRecord {
         head: 2,
         next: 0,
         seconds: 20,
@@ -46,7 +31,7 @@ const ROADS: [Road; 5] = [
         limit: 75,
         mark: 0,
     },
-    Road {
+    RoadRecord {
         head: 2,
         next: 0,
         seconds: 100,
@@ -54,7 +39,7 @@ const ROADS: [Road; 5] = [
         limit: 400,
         mark: 0,
     },
-    Road {
+    RoadRecord {
         head: 3,
         next: 0,
         seconds: 0,
@@ -62,7 +47,7 @@ const ROADS: [Road; 5] = [
         limit: 260,
         mark: 0,
     },
-    Road {
+    RoadRecord {
         head: 2,
         next: 0,
         seconds: 10,
@@ -83,8 +68,8 @@ fn push_fields(file: &mut Vec<u8>, fields: &[u16]) -> Result<(), AllocError> {
 pub(crate) fn map_bytes(
     heap: Global,
     levels: u8,
-    junctions: &[Junction],
-    roads: &[Road],
+    junctions: &[JunctionRecord],
+    roads: &[RoadRecord],
 ) -> Result<Vec<u8>, AllocError> {
     let n = u16::try_from(junctions.len()).unwrap_or(u16::MAX);
     let m = u16::try_from(roads.len()).unwrap_or(u16::MAX);
@@ -146,44 +131,38 @@ pub(crate) fn worked(heap: Global, changes: &[(Field, u16)]) -> Result<Vec<u8>, 
     let mut file = map_bytes(heap, 1, &JUNCTIONS, &ROADS)?;
     for (field, value) in changes {
         let at = offset(*field) as usize;
-        let [low, high] = value.to_le_bytes();
-        if at + 1 >= file.len() {
+        if at + 2 > file.len() {
             return Err(Fail::new("no such field"));
         }
-        file[at] = low;
-        file[at + 1] = high;
+        file[at..at + 2].copy_from_slice(&value.to_le_bytes());
     }
     Ok(file)
 }
 
 /// The map of a file that has to be accepted.
 pub(crate) fn accepts(file: Vec<u8>) -> Result<ChainedMap, Fail> {
-    match ChainedMap::open(file) {
-        Ok(map) => Ok(map),
-        Err(refused) => Err(Fail::new(refused.fault.report())),
-    }
+    ChainedMap::open(file).map_err(|refused| Fail::new(Report::from(refused.fault)))
 }
 
 /// Checks that opening refuses a file by this number and place, and hands its bytes back as they were.
 pub(crate) fn refuses(file: Vec<u8>, number: u8, place: usize) -> Result<(), Fail> {
     let copy = file.clone()?;
-    match ChainedMap::open(file) {
-        Ok(_) => Err(Fail::new("accepted")),
-        Err(RefusedMap { fault, bytes }) => {
-            check_eq(
-                fault.report(),
-                Report {
-                    number,
-                    place,
-                    part: Part::Map,
-                },
-            )?;
-            check_eq(bytes, copy)
-        }
-    }
+    let Err(RefusedMap { fault, bytes }) = ChainedMap::open(file) else {
+        return Err(Fail::new("accepted"));
+    };
+    check_eq(
+        Report::from(fault),
+        Report {
+            number,
+            place,
+            part: Part::Map,
+        },
+    )?;
+    check_eq(bytes, copy)
 }
 
 /// Fails where what is found is not what is wanted.
+// Kept: the library's assertion needs a handle that lets a function abort; the helpers take none, and answer with a Fail.
 pub(crate) fn check_eq<T: PartialEq + Debug + Drop>(found: T, wanted: T) -> Result<(), Fail> {
     if found == wanted {
         return Ok(());

@@ -1,6 +1,7 @@
 //! Which roads of a network belong to a graph.
-ghost use Rattle.std.specs.Prelude.{◌≡◌, Bool, slice_index};
+ghost use Rattle.std.specs.Prelude.{◌≡◌, ◌==◌, Bool, slice_index};
 ghost use Rattle.roads.specs.declared.facts.Facts.{Facts};
+ghost use Rattle.cells.specs.Cells.{cell};
 ghost use Rattle.cells.specs.RoadGraphs.{stays_inside};
 ghost use Rattle.road_graph.specs.Cursors.{surveyed};
 
@@ -17,7 +18,7 @@ pub trait RoadTest {
 
 /// The open roads.
 #[derive(Clone, Copy)]
-pub struct Open {}
+pub struct Open;
 
 impl RoadTest for Open {
     ghost test = { λ _ f. f.open };
@@ -39,10 +40,15 @@ pub struct Inside<'a> {
 fn code_at(codes: &[u16], junction: u32) -> u16
     ensures { result ≡ slice_index codes.now junction }
 {
-    if (junction as usize) < codes.len() {
-        codes[junction as usize]
-    } else {
-        0
+    codes.get(junction as usize).copied().unwrap_or(0)
+}
+
+impl<'a> Inside<'a> {
+    // Whether a junction lies in the cell.
+    fn holds(&self, junction: u32) -> bool
+        ensures { result ≡ (cell (surveyed 0 self.now.codes.now) self.now.level junction == self.now.cell) }
+    {
+        cell_of(code_at(self.codes, junction), self.level) == self.cell
     }
 }
 
@@ -50,8 +56,6 @@ impl<'a> RoadTest for Inside<'a> {
     ghost test = { λ s. stays_inside (surveyed 0 s.codes.now) s.level s.cell };
 
     fn passes(&self, facts: Facts) -> bool {
-        facts.open
-            && cell_of(code_at(self.codes, facts.tail), self.level) == self.cell
-            && cell_of(code_at(self.codes, facts.head), self.level) == self.cell
+        facts.open && self.holds(facts.tail) && self.holds(facts.head)
     }
 }

@@ -6,8 +6,10 @@ ghost use Rattle.road_graph.specs.Cursors.{arcs_from};
 use super::choice::RoadTest;
 use roads::Roads;
 use roads::facts::Facts;
+use walks::Arc;
 
 /// A place among the roads that leave a junction; with road 0 it is past the last.
+// Kept: `first` and `after` of `Roads` answer 0 at the end of a list, and `facts` of 0 is `None`, so the number needs no test
 #[derive(Clone, Copy)]
 pub struct RoadCursor {
     road: u32,
@@ -18,6 +20,18 @@ pub struct RoadCursor {
 pub struct Passing {
     pub road: u32,
     pub facts: Facts,
+}
+
+impl From<Passing> for Arc {
+    ghost from_gives = { λ x arc. arc ≡ road_arc x.road x.facts };
+
+    fn from(passing: Passing) -> Arc {
+        Arc {
+            tail: passing.facts.tail,
+            head: passing.facts.head,
+            road: passing.road,
+        }
+    }
 }
 
 /// A cursor at the first road that leaves a junction.

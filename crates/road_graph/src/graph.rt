@@ -35,17 +35,11 @@ impl<'a, R: Roads, F: Tariff, P: RoadTest> Graph for RoadsWhere<'a, R, F, P> {
     }
 
     fn next_arc(&self, at: &mut RoadCursor) -> Option<ChargedArc<F::Charge>> {
-        match next_passing(self.roads, self.test, at) {
-            Some(passing) => {
-                let arc = Arc {
-                    tail: passing.facts.tail,
-                    head: passing.facts.head,
-                    road: passing.road,
-                };
-                let charge = self.tariff.charge(passing.road, passing.facts);
-                Some(ChargedArc { arc, charge })
-            }
-            None => None,
-        }
+        let passing = next_passing(self.roads, self.test, at)?;
+        let charge = self.tariff.charge(passing.road, passing.facts);
+        Some(ChargedArc {
+            arc: Arc::from(passing),
+            charge,
+        })
     }
 }

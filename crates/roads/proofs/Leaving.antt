@@ -3,7 +3,7 @@ use Rattle.std.proofs.Common.{◌≡◌, ℕ, Bool, true, false, cond, eqb, List
 use Rattle.std.proofs.lemmas.Bool.{eqb-true, eqb-false, eq-eqb, ne_eqb, cond-true, cond-false, true≢false, cases_Bool}
 use Rattle.roads.specs.declared.facts.Facts.{Facts}
 use Rattle.roads.specs.RoadLists.{has, distinct, front, past}
-use Rattle.roads.specs.Networks.{Network, WellFormed, leaves, numbered, next_leaving}
+use Rattle.roads.specs.Networks.{Network, WellFormed, leaves, numbered, next_leaving, roads_from}
 
 -- a list from r on
 abbrev pub onward : ℕ → List ℕ → List ℕ
@@ -38,23 +38,6 @@ pub onward_front : (xs : List ℕ) → onward (front xs) xs ≡ xs
 onward_front [] = refl
 onward_front (x ∷ xs) = cond-true (eqb x x) (x ∷ xs) (onward x xs) (eq-eqb x x refl)
 
--- and from 0 on there is nothing
-pub onward_zero : (xs : List ℕ) → has 0 xs ≡ false → onward 0 xs ≡ []
-onward_zero [] h = refl
-onward_zero (x ∷ xs) h =
-    let apart = has_neither 0 x xs h in
-    cond-false (eqb 0 x) (x ∷ xs) (onward 0 xs) apart.0 ∙ onward_zero xs apart.1
-
--- a road that stands at the front of what is left is in the list, and before what comes after it
-pub onward_here : (r : ℕ) (xs : List ℕ) → r ≡ front (onward r xs) → (r ≡ 0 → ⊥) → (has r xs ≡ true) × (onward r xs ≡ r ∷ past r xs)
-onward_here r [] e n = absurd (n e)
-onward_here r (x ∷ xs) e n =
-    (elim (eqb r x) as (λ v. eqb r x ≡ v → r ≡ front (cond v (x ∷ xs) (onward r xs))
-    → (cond v true (has r xs) ≡ true) × (cond v (x ∷ xs) (onward r xs) ≡ r ∷ cond v xs (past r xs))) [
-      | true ↦ λ t e. (refl, ap (λ y. y ∷ xs) (sym (eqb-true r x t)))
-      | false ↦ λ t e. onward_here r xs e n
-    ]) refl e
-
 -- what is left from the next road on
 pub onward_next : (r : ℕ) (xs : List ℕ) → has 0 xs ≡ false → distinct xs ≡ true → onward (front (past r xs)) xs ≡ past r xs
 onward_next r [] z d = refl
@@ -68,13 +51,27 @@ onward_next r (x ∷ xs) z d =
       | false ↦ skip (past r xs) (has_past x r xs parts.0) ∙ onward_next r xs none.1 parts.1
     ]
 
--- a road's number is above 0
-numbered_zero : (m : ℕ) → numbered m 0 ≡ false
-numbered_zero m = refl
+-- a road of a list stands at the front of what is left from it on
+onward_has : (r : ℕ) (xs : List ℕ) → has r xs ≡ true → onward r xs ≡ r ∷ past r xs
+onward_has r [] h = absurd (true≢false (sym h))
+onward_has r (x ∷ xs) h =
+    (elim (eqb r x) as (λ v. eqb r x ≡ v → cond v true (has r xs) ≡ true → cond v (x ∷ xs) (onward r xs) ≡ r ∷ cond v xs (past r xs)) [
+      | true ↦ λ t e. ap (λ y. y ∷ xs) (sym (eqb-true r x t))
+      | false ↦ λ t e. onward_has r xs e
+    ]) refl h
+
+-- what comes after r is in the list
+past_in : (r : ℕ) (xs : List ℕ) (q : ℕ) → has q (past r xs) ≡ true → has q xs ≡ true
+past_in r xs q h =
+    ⊎_elim (λ (t : has q xs ≡ true). t) (λ (f : has q xs ≡ false). absurd (true≢false (sym h ∙ has_past q r xs f))) (cases_Bool (has q xs))
 
 leaves_known : (j : ℕ) (o : Option Facts) → leaves j o ≡ true → is_some o ≡ true
 leaves_known j None e = absurd (true≢false (sym e))
 leaves_known j (Some f) e = refl
+
+nowhere : (w : Network) (r : ℕ) (o : Option Facts) → is_some o ≡ false → ◌≡◌ {A = List ℕ} (elim o [ None ↦ [] | Some f ↦ r ∷ past r (w.leaving f.tail) ]) []
+nowhere w r None e = refl
+nowhere w r (Some f) e = absurd (true≢false e)
 
 module _ (w : Network) (ok : WellFormed w) (j : ℕ) where
   pub leaving_no_zero : has 0 (w.leaving j) ≡ false
@@ -83,24 +80,42 @@ module _ (w : Network) (ok : WellFormed w) (j : ℕ) where
       absurd (true≢false (sym (leaves_known j (w.facts 0) (sym (ok.listed j 0) ∙ h)) ∙ ok.known 0)))
       (λ h. h) (cases_Bool (has 0 (w.leaving j)))
 
-  next_at : (r : ℕ) (o : Option Facts) → leaves j o ≡ true
-      → elim o [ None ↦ 0 | Some f ↦ front (past r (w.leaving f.tail)) ] ≡ front (past r (w.leaving j))
-  next_at r None t = absurd (true≢false (sym t))
-  next_at r (Some f) t = ap (λ k. front (past r (w.leaving k))) (sym (eqb-true j f.tail t))
+  -- the roads from one that leaves j on
+  there : (r : ℕ) (o : Option Facts) → leaves j o ≡ true
+      → elim o [ None ↦ [] | Some f ↦ r ∷ past r (w.leaving f.tail) ] ≡ r ∷ past r (w.leaving j)
+  there r None t = absurd (true≢false (sym t))
+  there r (Some f) t = ap (λ k. r ∷ past r (w.leaving k)) (sym (eqb-true j f.tail t))
 
-  -- the road after one that leaves j
-  pub next_is : (r : ℕ) → has r (w.leaving j) ≡ true → next_leaving w r ≡ front (past r (w.leaving j))
-  next_is r h = next_at r (w.facts r) (sym (ok.listed j r) ∙ h)
+  pub from_front : (ys : List ℕ) → ((y : ℕ) → has y ys ≡ true → has y (w.leaving j) ≡ true) → onward (front ys) (w.leaving j) ≡ ys → roads_from w (front ys) ≡ ys
+  unfolding roads_from
+  from_front [] s e = nowhere w 0 (w.facts 0) (ok.known 0)
+  from_front (y ∷ ys) s e =
+      let here : has y (w.leaving j) ≡ true = s y (cond-true (eqb y y) true (has y ys) (eq-eqb y y refl)) in
+      there y (w.facts y) (sym (ok.listed j y) ∙ here) ∙ (sym (onward_has y (w.leaving j) here) ∙ e)
 
-  -- one step along the list: what stands at r, what the next road is, and what is left from there on
-  pub step : (r : ℕ) → r ≡ front (onward r (w.leaving j)) → (r ≡ 0 → ⊥)
-      → (onward r (w.leaving j) ≡ r ∷ past r (w.leaving j))
-      × (next_leaving w r ≡ front (past r (w.leaving j)))
-      × (onward (next_leaving w r) (w.leaving j) ≡ past r (w.leaving j))
-  step r at n =
-      let here = onward_here r (w.leaving j) at n in
-      let next = next_is r here.0 in
-      (here.1, next, ap (λ q. onward q (w.leaving j)) next ∙ onward_next r (w.leaving j) leaving_no_zero (ok.once j))
+module _ (w : Network) (ok : WellFormed w) where
+  -- from the first road that leaves j on there are all of them
+  pub from_first : (j : ℕ) → roads_from w (front (w.leaving j)) ≡ w.leaving j
+  from_first j = from_front w ok j (w.leaving j) (λ y h. h) (onward_front (w.leaving j))
 
-  pub done : onward 0 (w.leaving j) ≡ []
-  done = onward_zero (w.leaving j) leaving_no_zero
+  pub from_step : (r : ℕ) (f : Facts) → w.facts r ≡ Some f → roads_from w r ≡ r ∷ roads_from w (next_leaving w r)
+  unfolding roads_from
+  from_step r f e =
+      let all = w.leaving f.tail in
+      let now : roads_from w r ≡ r ∷ past r all = ap (λ (o : Option Facts). elim o [ None ↦ [] | Some x ↦ r ∷ past r (w.leaving x.tail) ]) e in
+      let next : next_leaving w r ≡ front (past r all) = ap (λ (o : Option Facts). elim o [ None ↦ 0 | Some x ↦ front (past r (w.leaving x.tail)) ]) e in
+      let rest : roads_from w (front (past r all)) ≡ past r all =
+      from_front w ok f.tail (past r all) (past_in r all) (onward_next r all (leaving_no_zero w ok f.tail) (ok.once f.tail)) in
+      now ∙ ap (λ xs. r ∷ xs) (sym (ap (roads_from w) next ∙ rest))
+
+  -- from no road on there is nothing
+  pub from_none : (r : ℕ) → numbered w.roads r ≡ false → roads_from w r ≡ []
+  unfolding roads_from
+  from_none r h = nowhere w r (w.facts r) (ok.known r ∙ h)
+
+  -- a road, and then those from the next on
+  pub from_road : (r n : ℕ) → n ≡ next_leaving w r → numbered w.roads r ≡ true → roads_from w r ≡ r ∷ roads_from w n
+  from_road r n e h = by (w.facts r) refl (ok.known r ∙ h) where
+    by : (o : Option Facts) → w.facts r ≡ o → is_some o ≡ true → roads_from w r ≡ r ∷ roads_from w n
+    by None t s = absurd (true≢false (sym s))
+    by (Some f) t s = rw e (from_step r f t)

@@ -1,5 +1,5 @@
 -- What roads mean.
-use Rattle.std.specs.Prelude.{◌≡◌, ℕ, ◌^◌, ◌<◌, Bool, true, false, ◌&&◌, List, is_some, Some, None, Option, ◌==◌, nat_le}
+use Rattle.std.specs.Prelude.{◌≡◌, ℕ, ◌^◌, ◌<◌, Bool, true, false, ◌&&◌, List, [], ◌∷◌, is_some, Some, None, Option, ◌==◌, nat_le}
 use Rattle.roads.specs.declared.facts.Facts.{Facts}
 use Rattle.roads.specs.RoadLists.{has, distinct, front, past}
 
@@ -27,6 +27,10 @@ is_open (Some f) = f.open
 -- the road that leaves the tail of r after r; 0 where r is the last, or no road
 abbrev pub next_leaving : Network → ℕ → ℕ
 next_leaving w r = elim (w.facts r) [ None ↦ 0 | Some f ↦ front (past r (w.leaving f.tail)) ]
+
+-- the roads from r on that leave the tail of r; none where r is no road
+unfoldable pub roads_from : Network → ℕ → List ℕ
+roads_from w r = elim (w.facts r) [ None ↦ [] | Some f ↦ r ∷ past r (w.leaving f.tail) ]
 
 pub record WellFormed (w : Network) : Type 0 where
   -- the counts have 32 bits

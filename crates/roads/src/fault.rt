@@ -1,7 +1,7 @@
 //! How a call is refused: why, where, and which part found it.
 ghost use Rattle.std.specs.Prelude.{◌≡◌, Some};
 ghost use Rattle.roads.specs.Words.{word, docket};
-ghost use Rattle.roads.specs.Faults.{number, report};
+ghost use Rattle.roads.specs.Faults.{number, report, reported, unless};
 
 use std::fmt;
 
@@ -42,6 +42,7 @@ pub struct Fault {
 }
 
 /// A fault as it is told: its number, its place, and the part that found it.
+// Kept: a report tells a refusal by its number, which is what a user looks up; `Fault` has the enum.
 #[derive(Clone, Copy, PartialEq, Eq, Debug)]
 pub struct Report {
     pub number: u8,
@@ -49,11 +50,12 @@ pub struct Report {
     pub part: Part,
 }
 
-impl Refusal {
-    pub fn number(self) -> u8
-        ensures { result ≡ number self }
-    {
-        match self {
+impl From<Refusal> for u8 {
+    ghost from_gives = { λ x n. n ≡ number x };
+
+    // Kept: numbers on the variants would be as many lines, and a cast besides.
+    fn from(refusal: Refusal) -> u8 {
+        match refusal {
             Refusal::Length => 1,
             Refusal::Limits => 2,
             Refusal::Field => 3,
@@ -73,13 +75,36 @@ impl Refusal {
 }
 
 impl Fault {
-    pub fn report(self) -> Report
-        ensures { result ≡ report self }
+    pub fn new(refusal: Refusal, place: usize, part: Part) -> Fault
+        ensures { result ≡ record { refusal = refusal; place = place; part = part } }
     {
+        Fault {
+            refusal,
+            place,
+            part,
+        }
+    }
+
+    /// A check: refused unless the test holds.
+    pub fn unless(test: bool, refusal: Refusal, place: usize, part: Part) -> Result<(), Fault>
+        ensures { reported result ≡ unless test (number refusal) place part }
+    {
+        if test {
+            Ok(())
+        } else {
+            Err(Fault::new(refusal, place, part))
+        }
+    }
+}
+
+impl From<Fault> for Report {
+    ghost from_gives = { λ f x. x ≡ report f };
+
+    fn from(fault: Fault) -> Report {
         Report {
-            number: self.refusal.number(),
-            place: self.place,
-            part: self.part,
+            number: u8::from(fault.refusal),
+            place: fault.place,
+            part: fault.part,
         }
     }
 }
@@ -102,9 +127,6 @@ impl fmt::Display for Report {
     ghost output = { λ x. Some (docket x) };
 
     fn fmt<W: fmt::Write>(&self, f: &mut fmt::Formatter<W>) -> fmt::Result {
-        let number = self.number;
-        let place = self.place;
-        let part = self.part;
-        write!(f, "{number} {place} {part}")
+        write!(f, "{} {} {}", self.number, self.place, self.part)
     }
 }

@@ -1,14 +1,16 @@
 //! Roads by their meaning, and how a call is refused.
 #![tactic(auto)]
 
-ghost use Rattle.std.specs.Prelude.{◌≡◌, [], ◌∷◌, ◌++◌, IfOk};
+ghost use Rattle.std.specs.Prelude.{◌≡◌, IfOk};
 ghost use Rattle.roads.specs.RoadLists.{front};
-ghost use Rattle.roads.specs.Networks.{Network, WellFormed, next_leaving};
+ghost use Rattle.roads.specs.Networks.{Network, WellFormed, numbered, is_open, next_leaving};
 
 pub mod facts;
 pub mod fault;
+mod roads_from;
 
 use facts::Facts;
+pub use roads_from::RoadsFrom;
 use std::alloc::{AllocError, Global};
 
 /// Junctions from 0 on and roads from 1 on, read by number.
@@ -26,6 +28,7 @@ pub trait Roads {
     fn facts(&self, road: u32) -> Option<Facts>
         ensures { result ≡ (meaning self.now).facts road };
 
+    // Kept: a list of roads ends with 0 here and in the file, a rule of the project; `RoadsFrom` is the iterator over it.
     /// The first road that leaves a junction; 0 where none does or there is no such junction.
     fn first(&self, junction: u32) -> u32
         ensures { result ≡ front ((meaning self.now).leaving junction) };
@@ -34,15 +37,21 @@ pub trait Roads {
     fn after(&self, road: u32) -> u32
         ensures { result ≡ next_leaving (meaning self.now) road };
 
-    ghost sound: { (s : Self) → WellFormed (meaning s) };
-}
+    /// Whether there is a road of this number.
+    final fn has_road(&self, road: u32) -> bool
+        ensures { result ≡ numbered (meaning self.now).roads road }
+    {
+        (1..=self.roads()).contains(&road)
+    }
 
-// Notes a road, and goes on to the next that leaves the same junction.
-fn note_road<R: Roads>(roads: &R, list: &mut Vec<u32>, road: u32) -> Result<u32, AllocError>
-    ensures { IfOk result (λ next. (next ≡ next_leaving (R.Roads.meaning roads.now) road) × (list.new.items ≡ list.old.items ++ (road ∷ []))) }
-{
-    list.push(road)?;
-    Ok(roads.after(road))
+    /// Whether a road is open; one that is none is not.
+    final fn is_open(&self, road: u32) -> bool
+        ensures { result ≡ is_open ((meaning self.now).facts road) }
+    {
+        self.facts(road).is_some_and(|facts| facts.open)
+    }
+
+    ghost sound: { (s : Self) → WellFormed (meaning s) };
 }
 
 /// The roads that leave a junction, in the order of its leaving list.
@@ -53,10 +62,5 @@ pub fn leaving_roads<R: Roads>(
 ) -> Result<Vec<u32>, AllocError>
     ensures { IfOk result (λ v. v.items ≡ (R.Roads.meaning roads.now).leaving junction) }
 {
-    let mut list = Vec::new(heap);
-    let mut road = roads.first(junction);
-    while road != 0 {
-        road = note_road(roads, &mut list, road)?;
-    }
-    Ok(list)
+    RoadsFrom::new(roads, junction).collect(heap)
 }

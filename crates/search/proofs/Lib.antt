@@ -2,6 +2,7 @@ pub mod Fills
 pub mod Tallies
 pub mod Bags
 pub mod Orders
+pub mod Picks
 pub mod Traces
 pub mod Reaching
 pub mod Settling

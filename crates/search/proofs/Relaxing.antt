@@ -1,25 +1,21 @@
 -- What holds as an arc of the place that was settled last is dealt with.
-use Rattle.std.proofs.Common.{◌≡◌, ℕ, zero, suc, ◌<◌, true, cond, eqb, ◌≢◌, ◌⊎◌, List, ◌∷◌, sym, refl, ap, ◌∙◌, subst, inl, inr, ⊎_elim, arith}
-use Rattle.std.proofs.lemmas.Bool.{cases_eq, both_ways, eq-eqb, ne_eqb, eqb-false, cond_both}
+use Rattle.std.proofs.Common.{◌≡◌, ℕ, zero, suc, ◌<◌, true, ◌≢◌, ◌⊎◌, List, ◌∷◌, sym, refl, ap, ◌∙◌, subst, inl, inr, ⊎_elim, arith}
+use Rattle.std.proofs.lemmas.Bool.{cases_eq, both_ways}
 use Rattle.charge.specs.Scales.{Scale}
 use Rattle.walks.specs.declared.arcs.Arc.{Arc}
 use Rattle.walks.specs.Digraphs.{Digraph, In, Sound}
-use Rattle.search.specs.Progress.{State, Leads, Recorded, Core, Fine, Inner, Relabelled, Relaxed, tally}
-use Rattle.search.proofs.Orders.{Lawful, leq_refl, neutral_first}
-use Rattle.search.proofs.Tallies.{tally_same}
-
--- a place that is marked waiting if it was unseen is settled only if it was
-same_test : (a : ℕ) → eqb (cond (eqb a 0) 1 a) 2 ≡ eqb a 2
-same_test a = ⊎_elim
-    (λ (e : a ≡ 0). ap (λ t. eqb (cond t 1 a) 2) (eq-eqb a 0 e) ∙ sym (ne_eqb a 2 (omega (arith, e))))
-    (λ ne. ap (λ t. eqb (cond t 1 a) 2) (ne_eqb a 0 ne)) (cases_eq a 0)
+use Rattle.search.specs.Progress.{State, Leads, Recorded, Core, Fine, Inner, Relabelled, Relaxed}
+use Rattle.search.specs.declared.frontier.lists.Mark.TheVariants.{Unseen, Waiting, Settled}
+use Rattle.search.specs.Marks.{is_settled, tally}
+use Rattle.charge.proofs.Laws.{Lawful, leq_refl, neutral_least}
+use Rattle.search.proofs.Tallies.{tally_same, seen_settled, seen_waiting}
 
 -- an arc settles none
-pub count_kept : {C : Type 0} (s : Scale C) (st st' : State C) (r : Arc) (x : C) → Relaxed s st st' r x → (n : ℕ) → tally 2 st'.mark n ≡ tally 2 st.mark n
-count_kept s st st' r x (inl p) n = ap (λ z. tally 2 z.mark n) p.same
-count_kept s st st' r x (inr m) n = tally_same 2 st.mark st'.mark n (λ y h. ⊎_elim
-    (λ (q : y ≡ r.head). ap (λ z. eqb (st'.mark z) 2) q ∙ ap (λ a. eqb a 2) m.mark ∙ same_test (st.mark r.head) ∙ ap (λ z. eqb (st.mark z) 2) (sym q))
-    (λ d. ap (λ a. eqb a 2) (m.others y d).0) (cases_eq y r.head))
+pub count_kept : {C : Type 0} (s : Scale C) (st st' : State C) (r : Arc) (x : C) → Relaxed s st st' r x → (n : ℕ) → tally is_settled st'.mark n ≡ tally is_settled st.mark n
+count_kept s st st' r x (inl p) n = ap (λ z. tally is_settled z.mark n) p.same
+count_kept s st st' r x (inr m) n = tally_same is_settled st.mark st'.mark n (λ y h. ⊎_elim
+    (λ (q : y ≡ r.head). ap (λ z. is_settled (st'.mark z)) q ∙ ap is_settled m.mark ∙ seen_settled (st.mark r.head) ∙ ap (λ z. is_settled (st.mark z)) (sym q))
+    (λ d. ap is_settled (m.others y d).0) (cases_eq y r.head))
 
 module _ {C : Type 0} (s : Scale C) (laws : Lawful s) (g : Digraph C) (sound : Sound g) where
   -- a fine arc is dealt with as it is
@@ -37,17 +33,17 @@ module _ {C : Type 0} (s : Scale C) (laws : Lawful s) (g : Digraph C) (sound : S
   }
 
   -- the records of settled places, and the way that they lead back, stay
-  leads_kept : (start count : ℕ) (st : State C) (into' : ℕ → Arc) → Core s g start count st → ((y : ℕ) → y < g.places → st.mark y ≡ 2 → into' y ≡ st.into y) →
-      (k v : ℕ) → v < g.places → st.mark v ≢ 0 → into' v ≡ st.into v → Leads st.into start k v → Leads into' start k v
+  leads_kept : (start count : ℕ) (st : State C) (into' : ℕ → Arc) → Core s g start count st → ((y : ℕ) → y < g.places → st.mark y ≡ Settled → into' y ≡ st.into y) →
+      (k v : ℕ) → v < g.places → st.mark v ≢ Unseen → into' v ≡ st.into v → Leads st.into start k v → Leads into' start k v
   leads_kept start count st into' c kept zero v h seen same l = l
   leads_kept start count st into' c kept (suc k) v h seen same l =
       let r = c.recorded v h seen l.0 in (
         l.0,
         subst (λ a. Leads into' start k a.tail) (sym same)
-            (leads_kept start count st into' c kept k (st.into v).tail r.within (omega (arith, r.from)) (kept _ r.within r.from) l.1),
+            (leads_kept start count st into' c kept k (st.into v).tail r.within (λ z. cc (r.from)) (kept _ r.within r.from) l.1),
       )
 
-  recorded_by : (st : State C) (y u : ℕ) (a : Arc) → st.into y ≡ a → a.tail ≡ u → u < g.places → st.mark u ≡ 2 → In a (g.leaving u) → a.head ≡ y →
+  recorded_by : (st : State C) (y u : ℕ) (a : Arc) → st.into y ≡ a → a.tail ≡ u → u < g.places → st.mark u ≡ Settled → In a (g.leaving u) → a.head ≡ y →
       st.label y ≡ s.joined (st.label u) (g.charge a) → Recorded s g st y
   recorded_by st y u a e t within from arc ends total =
       let tail : (st.into y).tail ≡ u = ap (λ z. z.tail) e ∙ t in
@@ -69,24 +65,23 @@ module _ {C : Type 0} (s : Scale C) (laws : Lawful s) (g : Digraph C) (sound : S
       let tail : r.tail ≡ u = sound.tails u r leaves in
       let hv : v < g.places = sound.heads u r leaves in
       let up : s.leq (st.label u) x ≡ true = laws.growing.first (st.label u) (g.charge r) in
-      let not-2 : st.mark v ≢ 2 = λ e. both_ways _ (m.better (omega (arith, e))) (laws.order.transitive _ _ _ (n.top v hv e) up) in
+      let not-2 : st.mark v ≢ Settled = λ e. both_ways _ (m.better (λ z. cc)) (laws.order.transitive _ _ _ (n.top v hv e) up) in
       let not_start : v ≢ start = λ e.
       let no = m.better (λ z. c.seen (ap st.mark (sym e) ∙ z)) in
-      both_ways _ no (subst (λ a. s.leq a x ≡ true) (sym (ap st.label e ∙ c.neutral)) (neutral_first s laws x)) in
-      let one : st'.mark v ≡ 1 = m.mark ∙ cond_both (eqb (st.mark v) 0) 1 (st.mark v) (λ a. a ≡ 1) (λ _. refl)
-      (λ e. let ne = eqb-false (st.mark v) 0 e in omega (arith, not-2, ne, c.range v hv)) in
-      let grown : (y : ℕ) → st.mark y ≢ 0 → st'.mark y ≢ 0 = λ y ne. ⊎_elim (λ (q : y ≡ v). omega (arith, ap st'.mark q, one)) (λ d. omega (arith, (m.others y d).0, ne)) (cases_eq y v) in
-      let falls : (y : ℕ) → st.mark y ≢ 0 → s.leq (st'.label y) (st.label y) ≡ true = λ y ne. ⊎_elim
+      both_ways _ no (subst (λ a. s.leq a x ≡ true) (sym (ap st.label e ∙ c.neutral)) (neutral_least laws x)) in
+      let one : st'.mark v ≡ Waiting = m.mark ∙ seen_waiting (st.mark v) not-2 in
+      let grown : (y : ℕ) → st.mark y ≢ Unseen → st'.mark y ≢ Unseen = λ y ne z. ⊎_elim (λ (q : y ≡ v). cc (ap st'.mark q)) (λ d. ne (sym (m.others y d).0 ∙ z)) (cases_eq y v) in
+      let falls : (y : ℕ) → st.mark y ≢ Unseen → s.leq (st'.label y) (st.label y) ≡ true = λ y ne. ⊎_elim
       (λ (q : y ≡ v). subst (λ z. s.leq (st'.label z) (st.label z) ≡ true) (sym q) (subst (λ a. s.leq a (st.label v) ≡ true) (sym m.label)
       (laws.order.comparable _ _ (m.better (λ z. ne (ap st.mark q ∙ z))))))
-      (λ d. subst (λ a. s.leq a (st.label y) ≡ true) (sym (m.others y d).1) (leq_refl s laws.order (st.label y))) (cases_eq y v) in
-      let was-2 : (y : ℕ) → st'.mark y ≡ 2 → (st.mark y ≡ 2) × (y ≢ v) = λ y e. ⊎_elim
-      (λ (q : y ≡ v). absurd (omega (arith, ap st'.mark q, one, e))) (λ d. (sym (m.others y d).0 ∙ e, d)) (cases_eq y v) in
-      let apart : (y : ℕ) → st.mark y ≡ 2 → y ≢ v = λ y e q. not-2 (ap st.mark (sym q) ∙ e) in
+      (λ d. subst (λ a. s.leq a (st.label y) ≡ true) (sym (m.others y d).1) (leq_refl laws.order (st.label y))) (cases_eq y v) in
+      let was-2 : (y : ℕ) → st'.mark y ≡ Settled → (st.mark y ≡ Settled) × (y ≢ v) = λ y e. ⊎_elim
+      (λ (q : y ≡ v). absurd (cc (ap st'.mark q))) (λ d. (sym (m.others y d).0 ∙ e, d)) (cases_eq y v) in
+      let apart : (y : ℕ) → st.mark y ≡ Settled → y ≢ v = λ y e q. not-2 (ap st.mark (sym q) ∙ e) in
       let same-u : st'.label u ≡ st.label u = (m.others u (apart u n.last)).1 in
-      let last' : st'.mark u ≡ 2 = (m.others u (apart u n.last)).0 ∙ n.last in
-      let kept : (y : ℕ) → y < g.places → st.mark y ≡ 2 → st'.into y ≡ st.into y = λ y h e. (m.others y (apart y e)).2 in
-      let keeps : (y : ℕ) (q : Arc) → st.mark y ≡ 2 → Fine s g st y q → Fine s g st' y q = λ y q e fine. (
+      let last' : st'.mark u ≡ Settled = (m.others u (apart u n.last)).0 ∙ n.last in
+      let kept : (y : ℕ) → y < g.places → st.mark y ≡ Settled → st'.into y ≡ st.into y = λ y h e. (m.others y (apart y e)).2 in
+      let keeps : (y : ℕ) (q : Arc) → st.mark y ≡ Settled → Fine s g st y q → Fine s g st' y q = λ y q e fine. (
         grown q.head fine.0,
         subst (λ b. s.leq (st'.label q.head) (s.joined b (g.charge q)) ≡ true) (sym (m.others y (apart y e)).1)
             (laws.order.transitive _ _ _ (falls q.head fine.0) fine.1),
@@ -96,7 +91,6 @@ module _ {C : Type 0} (s : Scale C) (laws : Lawful s) (g : Digraph C) (sound : S
           within = c.within;
           seen = grown start c.seen;
           neutral = (m.others start (λ e. not_start (sym e))).1 ∙ c.neutral;
-          range = λ y h. ⊎_elim (λ (q : y ≡ v). omega (arith, ap st'.mark q, one)) (λ d. omega (arith, (m.others y d).0, c.range y h)) (cases_eq y v);
           waiting = λ y h e. ⊎_elim
               (λ (q : y ≡ v). let l = c.settled u n.within n.last in (
                 suc l.0,
@@ -104,13 +98,13 @@ module _ {C : Type 0} (s : Scale C) (laws : Lawful s) (g : Digraph C) (sound : S
                 subst (λ z. Leads st'.into start (suc l.0) z) (sym q) (
                   not_start,
                   subst (λ z. Leads st'.into start l.0 z) (sym (ap (λ a. a.tail) m.into ∙ tail))
-                      (leads_kept start count st st'.into c kept l.0 u n.within (omega (arith, n.last)) (kept u n.within n.last) l.2),
+                      (leads_kept start count st st'.into c kept l.0 u n.within (λ z. cc (n.last)) (kept u n.within n.last) l.2),
                 ),
               ))
-              (λ d. let was : st.mark y ≡ 1 = sym (m.others y d).0 ∙ e in let l = c.waiting y h was in
-              (l.0, l.1, leads_kept start count st st'.into c kept l.0 y h (omega (arith, was)) (m.others y d).2 l.2)) (cases_eq y v);
+              (λ d. let was : st.mark y ≡ Waiting = sym (m.others y d).0 ∙ e in let l = c.waiting y h was in
+              (l.0, l.1, leads_kept start count st st'.into c kept l.0 y h (λ z. cc) (m.others y d).2 l.2)) (cases_eq y v);
           settled = λ y h e. let was = was-2 y e in let l = c.settled y h was.0 in
-              (l.0, l.1, leads_kept start count st st'.into c kept l.0 y h (omega (arith, was.0)) (m.others y was.1).2 l.2);
+              (l.0, l.1, leads_kept start count st st'.into c kept l.0 y h (λ z. cc (was.0)) (m.others y was.1).2 l.2);
           recorded = λ y h e ne. ⊎_elim
               (λ (q : y ≡ v). subst (λ z. Recorded s g st' z) (sym q)
               (recorded_by st' v u r m.into tail n.within last' leaves refl (m.label ∙ ap (λ a. s.joined a (g.charge r)) (sym same-u))))
@@ -128,7 +122,7 @@ module _ {C : Type 0} (s : Scale C) (laws : Lawful s) (g : Digraph C) (sound : S
         partly = λ q i. ⊎_elim
             (λ (here : (q ≡ r) ⊎ In q rest). ⊎_elim
             (λ (e : q ≡ r). inr (subst (λ a. Fine s g st' u a) (sym e)
-            (omega (arith, one), subst (λ b. s.leq (st'.label v) (s.joined b (g.charge r)) ≡ true) (sym same-u) (subst (λ a. s.leq a x ≡ true) (sym m.label) (leq_refl s laws.order x)))))
+            (λ z. cc, subst (λ b. s.leq (st'.label v) (s.joined b (g.charge r)) ≡ true) (sym same-u) (subst (λ a. s.leq a x ≡ true) (sym m.label) (leq_refl laws.order x)))))
             (λ more. inl more) here)
             (λ fine. inr (keeps u q n.last fine)) (n.partly q i);
         onward = λ q i. n.onward q (inr i);

@@ -1,50 +1,29 @@
--- How a search begins, and what holds as a place is settled and as its arcs are done.
-use Rattle.std.proofs.Common.{◌≡◌, ℕ, ◌+◌, ◌<◌, true, ◌≢◌, ◌⊎◌, [], sym, ap, ◌∙◌, subst, inl, inr, ⊎_elim, arith}
+-- What holds as a place is settled, and as its arcs are done.
+use Rattle.std.proofs.Common.{◌≡◌, ℕ, ◌+◌, true, ◌≢◌, ◌⊎◌, [], sym, ap, ◌∙◌, subst, inl, inr, ⊎_elim, arith}
 use Rattle.std.proofs.lemmas.Bool.{cases_eq}
-use Rattle.charge.specs.Scales.{Scale}
+use Rattle.charge.specs.Scales.{Scale, Ordered}
 use Rattle.walks.specs.Digraphs.{Digraph, In}
+use Rattle.search.specs.declared.frontier.lists.Mark.{Mark}
+use Rattle.search.specs.declared.frontier.lists.Mark.TheVariants.{Unseen, Waiting, Settled}
 use Rattle.search.specs.Progress.{State, Fine, Outer, Inner, First}
-use Rattle.search.proofs.Orders.{Lawful, leq_refl}
+use Rattle.charge.proofs.Laws.{leq_refl}
 
-module _ {C : Type 0} (s : Scale C) (laws : Lawful s) (g : Digraph C) where
-  -- the start alone waits
-  pub begun : (start : ℕ) (st : State C) → start < g.places → st.mark start ≡ 1 → st.label start ≡ s.neutral →
-      ((v : ℕ) → v < g.places → v ≢ start → st.mark v ≡ 0) → Outer s g start 0 st
-  begun start st lt one neutral rest =
-      let none : (v : ℕ) → v < g.places → st.mark v ≡ 2 → ⊥ = λ v h e. ⊎_elim
-      (λ (q : v ≡ start). omega (arith, ap st.mark q, one, e)) (λ ne. omega (arith, rest v h ne, e)) (cases_eq v start) in
-      let only : (v : ℕ) → v < g.places → st.mark v ≢ 0 → v ≡ start = λ v h e. ⊎_elim
-      (λ (q : v ≡ start). q) (λ ne. absurd (e (rest v h ne))) (cases_eq v start) in
-      record {
-        core = record {
-          within = lt;
-          seen = omega (arith, one);
-          neutral = neutral;
-          range = λ v h. ⊎_elim (λ (q : v ≡ start). omega (arith, ap st.mark q, one)) (λ ne. omega (arith, rest v h ne)) (cases_eq v start);
-          waiting = λ v h e. (0, omega arith, only v h (omega (arith, e)));
-          settled = λ v h e. absurd (none v h e);
-          recorded = λ v h e ne. absurd (ne (only v h e));
-          ordered = λ u v hu hv eu ev. absurd (none u hu eu);
-        };
-        closed = λ v h e. absurd (none v h e);
-      }
-
+module _ {C : Type 0} (s : Scale C) (g : Digraph C) where
   -- a waiting place with the least label is settled
-  pub settle : (start count : ℕ) (st : State C) (mark' : ℕ → ℕ) (u : ℕ) → Outer s g start count st → First s g.places st u →
-      mark' u ≡ 2 → ((y : ℕ) → y ≢ u → mark' y ≡ st.mark y) → Inner s g start (count + 1) (record { mark = mark'; label = st.label; into = st.into }) u (g.leaving u)
-  settle start count st mark' u o f here others =
+  pub settle : Ordered s → (start count : ℕ) (st : State C) (mark' : ℕ → Mark) (u : ℕ) → Outer s g start count st → First s g.places st u →
+      mark' u ≡ Settled → ((y : ℕ) → y ≢ u → mark' y ≡ st.mark y) → Inner s g start (count + 1) (record { mark = mark'; label = st.label; into = st.into }) u (g.leaving u)
+  settle order start count st mark' u o f here others =
       let c = o.core in
-      let grown : (v : ℕ) → st.mark v ≢ 0 → mark' v ≢ 0 = λ v ne. ⊎_elim (λ (q : v ≡ u). omega (arith, ap mark' q, here)) (λ d. omega (arith, others v d, ne)) (cases_eq v u) in
-      let was-1 : (v : ℕ) → mark' v ≡ 1 → st.mark v ≡ 1 = λ v e. ⊎_elim (λ (q : v ≡ u). absurd (omega (arith, ap mark' q, here, e))) (λ d. sym (others v d) ∙ e) (cases_eq v u) in
-      let was-2 : (v : ℕ) → mark' v ≡ 2 → (v ≡ u) ⊎ (st.mark v ≡ 2) = λ v e. ⊎_elim (λ (q : v ≡ u). inl q) (λ d. inr (sym (others v d) ∙ e)) (cases_eq v u) in
-      let is-2 : (v : ℕ) → st.mark v ≡ 2 → mark' v ≡ 2 = λ v e. ⊎_elim (λ (q : v ≡ u). ap mark' q ∙ here) (λ d. others v d ∙ e) (cases_eq v u) in
-      let was-seen : (v : ℕ) → mark' v ≢ 0 → st.mark v ≢ 0 = λ v e. ⊎_elim (λ (q : v ≡ u). omega (arith, ap st.mark q, f.waiting)) (λ d. omega (arith, others v d, e)) (cases_eq v u) in
+      let grown : (v : ℕ) → st.mark v ≢ Unseen → mark' v ≢ Unseen = λ v ne z. ⊎_elim (λ (q : v ≡ u). cc (ap mark' q)) (λ d. ne (sym (others v d) ∙ z)) (cases_eq v u) in
+      let was-1 : (v : ℕ) → mark' v ≡ Waiting → st.mark v ≡ Waiting = λ v e. ⊎_elim (λ (q : v ≡ u). absurd (cc (ap mark' q))) (λ d. sym (others v d) ∙ e) (cases_eq v u) in
+      let was-2 : (v : ℕ) → mark' v ≡ Settled → (v ≡ u) ⊎ (st.mark v ≡ Settled) = λ v e. ⊎_elim (λ (q : v ≡ u). inl q) (λ d. inr (sym (others v d) ∙ e)) (cases_eq v u) in
+      let is-2 : (v : ℕ) → st.mark v ≡ Settled → mark' v ≡ Settled = λ v e. ⊎_elim (λ (q : v ≡ u). ap mark' q ∙ here) (λ d. others v d ∙ e) (cases_eq v u) in
+      let was-seen : (v : ℕ) → mark' v ≢ Unseen → st.mark v ≢ Unseen = λ v e z. ⊎_elim (λ (q : v ≡ u). cc (ap st.mark q, f.waiting)) (λ d. e (others v d ∙ z)) (cases_eq v u) in
       record {
         core = record {
           within = c.within;
           seen = grown start c.seen;
           neutral = c.neutral;
-          range = λ v h. ⊎_elim (λ (q : v ≡ u). omega (arith, ap mark' q, here)) (λ d. omega (arith, others v d, c.range v h)) (cases_eq v u);
           waiting = λ v h e. let r = c.waiting v h (was-1 v e) in (r.0, omega (arith, r.1), r.2);
           settled = λ v h e. ⊎_elim
               (λ (q : v ≡ u). let r = c.waiting v h (ap st.mark q ∙ f.waiting) in (r.0, omega (arith, r.1), r.2))
@@ -58,7 +37,7 @@ module _ {C : Type 0} (s : Scale C) (laws : Lawful s) (g : Digraph C) where
         within = f.within;
         last = here;
         top = λ v h e. ⊎_elim
-            (λ (q : v ≡ u). subst (λ y. s.leq (st.label y) (st.label u) ≡ true) (sym q) (leq_refl s laws.order (st.label u)))
+            (λ (q : v ≡ u). subst (λ y. s.leq (st.label y) (st.label u) ≡ true) (sym q) (leq_refl order (st.label u)))
             (λ e2. c.ordered v u h f.within e2 f.waiting) (was-2 v e);
         closed = λ v h e ne r i. ⊎_elim (λ (q : v ≡ u). absurd (ne q))
             (λ e2. let a = o.closed v h e2 r i in (grown r.head a.0, a.1)) (was-2 v e);

@@ -5,10 +5,11 @@ use Rattle.std.proofs.lemmas.Bool.{eq-eqb, ne_eqb, cond-true, cond-false}
 use Rattle.charge.specs.Scales.{Scale}
 use Rattle.walks.specs.declared.arcs.Arc.{Arc}
 use Rattle.walks.specs.Digraphs.{Digraph, In, Walk, cost}
+use Rattle.search.specs.declared.frontier.lists.Mark.TheVariants.{Unseen}
 use Rattle.search.specs.declared.frontier.Frontier.{Frontier}
 use Rattle.search.specs.Found.{mark_of, arc_into, back}
 use Rattle.search.specs.Progress.{state, Leads, Core}
-use Rattle.search.proofs.Orders.{Lawful}
+use Rattle.charge.proofs.Laws.{Lawful}
 
 -- a list of arcs is a walk to v with the label of v for its total
 pub record Traced {C : Type 0} (s : Scale C) (g : Digraph C) (start : ℕ) (w : List Arc) (v : ℕ) (x : C) (k : ℕ) : Type 0 where
@@ -37,7 +38,7 @@ module _ {C : Type 0} (s : Scale C) (laws : Lawful s) (g : Digraph C) where
   }
 
   pub traced : (start count : ℕ) (f : Frontier) (labels : List C) → Core s g start count (state s.neutral f labels) →
-      (fuel k v : ℕ) → k ≤ fuel → v < g.places → mark_of f v ≢ 0 → Leads (arc_into f) start k v → Traced s g start (back f start fuel v) v (get_or labels v s.neutral) k
+      (fuel k v : ℕ) → k ≤ fuel → v < g.places → mark_of f v ≢ Unseen → Leads (arc_into f) start k v → Traced s g start (back f start fuel v) v (get_or labels v s.neutral) k
   traced start count f labels c zero zero v le h seen l = none start v _ l (ap (λ y. get_or labels y s.neutral) l ∙ c.neutral)
   traced start count f labels c zero (suc k) v le h seen l = absurd (omega (arith, le))
   traced start count f labels c (suc fuel) zero v le h seen l =
@@ -48,4 +49,4 @@ module _ {C : Type 0} (s : Scale C) (laws : Lawful s) (g : Digraph C) where
       let u = (arc_into f v).tail in
       subst (λ w. Traced s g start w v (get_or labels v s.neutral) (suc k)) (sym (cond-false (eqb v start) [] _ (ne_eqb v start l.0)))
       (more start (back f start fuel u) u v (arc_into f v) _ _ k
-      (traced start count f labels c fuel k u (omega (arith, le)) r.within (omega (arith, r.from)) l.1) r.arc r.ends r.total)
+      (traced start count f labels c fuel k u (omega (arith, le)) r.within (λ z. cc (r.from)) l.1) r.arc r.ends r.total)

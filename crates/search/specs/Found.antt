@@ -1,26 +1,32 @@
 -- What a search finds.
-use Rattle.std.specs.Prelude.{◌≡◌, ℕ, zero, suc, ◌<◌, Bool, true, cond, ◌&&◌, List, [], ◌∷◌, ◌++◌, length, Some, None, Option, ◌==◌, nat_le, nat_lt, slice_index, slice_index_or}
+use Rattle.std.specs.Prelude.{◌≡◌, ℕ, zero, suc, ◌<◌, Bool, true, cond, ◌&&◌, List, [], ◌∷◌, ◌++◌, length, Some, None, Option, ◌==◌, nat_le, nat_lt, slice_index_or}
 use Rattle.charge.specs.Scales.{Scale}
 use Rattle.walks.specs.declared.arcs.Arc.{Arc}
 use Rattle.walks.specs.Digraphs.{Digraph, Walk, cost}
 use Rattle.walks.specs.Least.{Least}
+use Rattle.search.specs.declared.frontier.lists.Mark.{Mark}
+use Rattle.search.specs.declared.frontier.Step.{Step}
 use Rattle.search.specs.declared.frontier.Frontier.{Frontier}
+use Rattle.search.specs.Marks.{mark_at, is_settled}
 
 -- a search of n places from a start, with so many labels lent, can be run
 abbrev pub can_run : ℕ → ℕ → ℕ → Bool
 can_run n start labels = nat_le n 2048 && (nat_lt start n && nat_le n labels)
 
--- marks: 0 unseen, 1 waiting, 2 settled
-abbrev pub mark_of : Frontier → ℕ → ℕ
-mark_of f v = slice_index f.marks v
+abbrev pub mark_of : Frontier → ℕ → Mark
+mark_of f v = mark_at f.places.lists v
 
 -- whether the search came to v and is done with it
 abbrev pub settled : Frontier → ℕ → Bool
-settled f v = mark_of f v == 2
+settled f v = is_settled (mark_of f v)
+
+-- the last step of the way to v; past the steps, from place 0 by no road
+abbrev pub step_to : Frontier → ℕ → Step
+step_to f v = slice_index_or f.steps v (record { tail = 0; road = 0 })
 
 -- the arc by which v was reached
 abbrev pub arc_into : Frontier → ℕ → Arc
-arc_into f v = record { tail = slice_index f.via v; head = v; road = slice_index f.roads v }
+arc_into f v = record { tail = (step_to f v).tail; head = v; road = (step_to f v).road }
 
 -- the arcs from the start to v, by following the records back; no more than k
 abbrev pub back : Frontier → ℕ → ℕ → ℕ → List Arc

@@ -1,4 +1,6 @@
+pub mod Marks
+pub mod Waiting
 pub mod Found
 pub mod Progress
-pub mod Waiting
 pub mod Turns
+pub mod Runs

@@ -2,29 +2,30 @@
 ghost use Rattle.std.specs.Prelude.{◌≡◌, ℕ, false};
 ghost use Rattle.search.specs.Found.{settled, arc_into};
 
-mod marks;
-mod queue;
-mod records;
+mod lists;
+mod places;
+mod reaching;
 
+use lists::Mark;
+use places::Places;
 use walks::Arc;
 
-// The marks of a place.
-const UNSEEN: u8 = 0;
+// The last step of the way to a place: from where, and by which road.
+#[derive(Clone, Copy)]
+struct Step {
+    tail: u32,
+    road: u32,
+}
 
-const WAITING: u8 = 1;
-
-const SETTLED: u8 = 2;
+const NO_STEP: Step = Step { tail: 0, road: 0 };
 
 /// What a search keeps of each place: its mark, whether it waits, and the arc by which it was reached.
+// Kept: a step has no mark in it, so that a search begins with one fill of the marks and leaves the steps as they were.
 #[derive(Drop)]
 pub struct Frontier {
     start: u32,
-    size: usize,
-    waiting: usize,
-    marks: [u8; 2048],
-    queue: [u16; 2048],
-    via: [u16; 2048],
-    roads: [u32; 2048],
+    places: Places,
+    steps: [Step; 2048],
 }
 
 impl Frontier {
@@ -34,12 +35,8 @@ impl Frontier {
     {
         Frontier {
             start: 0,
-            size: 0,
-            waiting: 0,
-            marks: [UNSEEN; 2048],
-            queue: [0; 2048],
-            via: [0; 2048],
-            roads: [0; 2048],
+            places: Places::new(),
+            steps: [NO_STEP; 2048],
         }
     }
 
@@ -47,25 +44,18 @@ impl Frontier {
     pub fn reached(&self, place: u32) -> bool
         ensures { result ≡ settled self.now place }
     {
-        place < 2048 && self.marks[place as usize] == SETTLED
+        self.places.lists.mark(place) == Mark::Settled
     }
 
     /// The arc by which a place was reached.
     pub fn arc_into(&self, place: u32) -> Arc
         ensures { result ≡ arc_into self.now place }
     {
-        if place < 2048 {
-            Arc {
-                tail: self.via[place as usize] as u32,
-                head: place,
-                road: self.roads[place as usize],
-            }
-        } else {
-            Arc {
-                tail: 0,
-                head: place,
-                road: 0,
-            }
+        let step = self.steps.get(place as usize).copied().unwrap_or(NO_STEP);
+        Arc {
+            tail: step.tail,
+            head: place,
+            road: step.road,
         }
     }
 }

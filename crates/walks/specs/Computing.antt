@@ -1,5 +1,6 @@
 -- The least total as a function that computes: the cheapest of finitely many walks.
 use Rattle.std.specs.Prelude.{ℕ, zero, suc, ◌-◌, cond, List, [], ◌∷◌, ◌++◌, map, Some, None, Option, ◌==◌}
+use Rattle.std.specs.List.{flat_map}
 use Rattle.charge.specs.Scales.{Scale}
 use Rattle.walks.specs.declared.arcs.Arc.{Arc}
 use Rattle.walks.specs.Digraphs.{Digraph, cost}
@@ -13,15 +14,10 @@ abbrev pub cheapest : {C : Type 0} → Scale C → List C → Option C
 cheapest s [] = None
 cheapest s (x ∷ xs) = cheaper s x (cheapest s xs)
 
--- the lists that f makes of each element, one after the other
-abbrev pub gather : {X Y : Type 0} → (X → List Y) → List X → List Y
-gather f [] = []
-gather f (x ∷ xs) = f x ++ gather f xs
-
 -- the walks from a to b of at most k arcs
 abbrev pub walks_within : {C : Type 0} → Digraph C → ℕ → ℕ → ℕ → List (List Arc)
 walks_within g zero a b = cond (a == b) ([] ∷ []) []
-walks_within g (suc k) a b = cond (a == b) ([] ∷ []) [] ++ gather (λ r. map (λ w. r ∷ w) (walks_within g k r.head b)) (g.leaving a)
+walks_within g (suc k) a b = cond (a == b) ([] ∷ []) [] ++ flat_map (λ r. map (λ w. r ∷ w) (walks_within g k r.head b)) (g.leaving a)
 
 -- the cheapest total of the walks with fewer arcs than there are places
 abbrev pub least_total : {C : Type 0} → Scale C → Digraph C → ℕ → ℕ → Option C

@@ -1,5 +1,5 @@
 -- Graphs with charged arcs, and walks over them.
-use Rattle.std.specs.Prelude.{◌≡◌, ℕ, ◌<◌, Bool, cond, ◌&&◌, ◌⊎◌, List, [], ◌∷◌, map, ◌==◌, nat_lt}
+use Rattle.std.specs.Prelude.{◌≡◌, ℕ, ◌<◌, Bool, ◌&&◌, ◌⊎◌, List, [], ◌∷◌, map, filter, ◌==◌, nat_lt}
 use Rattle.charge.specs.Scales.{Scale, total}
 use Rattle.walks.specs.declared.arcs.Arc.{Arc}
 
@@ -19,18 +19,13 @@ pub record Sound {C : Type 0} (g : Digraph C) : Type 0 where
   pub tails : (u : ℕ) (r : Arc) → In r (g.leaving u) → r.tail ≡ u
   pub heads : (u : ℕ) (r : Arc) → In r (g.leaving u) → r.head < g.places
 
--- those of a list that pass a test, in order
-abbrev pub those : {X : Type 0} → (X → Bool) → List X → List X
-those test [] = []
-those test (x ∷ xs) = cond (test x) (x ∷ those test xs) (those test xs)
-
 -- whether an arc has u for its tail and leads to one of n places
 abbrev pub leads : ℕ → ℕ → Arc → Bool
 leads n u r = r.tail == u && nat_lt r.head n
 
 -- a graph without the arcs of a place that leave another or lead nowhere; a sound graph is as it was
 abbrev pub proper : {C : Type 0} → Digraph C → Digraph C
-proper g = record { places = g.places; leaving = λ u. those (leads g.places u) (g.leaving u); charge = g.charge }
+proper g = record { places = g.places; leaving = λ u. filter (leads g.places u) (g.leaving u); charge = g.charge }
 
 -- a list of arcs, each leaving where the one before ends, leads from a to b
 abbrev pub Walk : {C : Type 0} → Digraph C → ℕ → List Arc → ℕ → Type 0

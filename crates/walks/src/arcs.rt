@@ -1,5 +1,6 @@
 /// An arc from place to place: a road by its number, or with number 0 a shortcut.
-#[derive(Clone, Copy)]
+// Kept: `road` is a plain number, as in the lent lists, where 0 is no road; of an `Option` each arc would have to show it is not `Some(0)`
+#[derive(Clone, Copy, PartialEq, Eq, Debug)]
 pub struct Arc {
     pub tail: u32,
     pub head: u32,
@@ -7,7 +8,7 @@ pub struct Arc {
 }
 
 /// An arc with what it costs.
-#[derive(Clone, Copy)]
+#[derive(Clone, Copy, PartialEq, Eq, Debug)]
 pub struct ChargedArc<C> {
     pub arc: Arc,
     pub charge: C,

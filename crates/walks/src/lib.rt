@@ -11,6 +11,7 @@ pub use arcs::{Arc, ChargedArc};
 use charge::Charge;
 
 /// A graph that can be searched. The arcs that leave a place are enumerated by a cursor.
+// Kept: an iterator of those arcs would borrow the graph, so its type would need a lifetime parameter, which no associated type has
 pub trait Graph {
     type Charge: Charge;
 

@@ -3,11 +3,10 @@ ghost use Rattle.roads.specs.RoadLists.{has};
 ghost use Rattle.roads.specs.Networks.{numbered};
 ghost use Rattle.closings.specs.Closures.{opened};
 ghost use Rattle.closings.specs.Layers.{layered};
-ghost use Rattle.closings.specs.Tables.{items};
 ghost use Rattle.closings.specs.Coherence.{opened_sound};
 
 use super::ClosingsLayer;
-use crate::table::{Table, is_road};
+use crate::table::Table;
 use roads::Roads;
 use roads::facts::Facts;
 
@@ -15,7 +14,7 @@ impl<B: Roads> ClosingsLayer<B> {
     /// A layer that closes nothing yet.
     pub fn new(below: B) -> ClosingsLayer<B>
         ensures below { result.below ≡ below }
-        ensures empty { items result.table ≡ [] }
+        ensures empty { result.table ≡ [] }
     {
         ClosingsLayer {
             below,
@@ -40,18 +39,18 @@ impl<B: Roads> ClosingsLayer<B> {
 
     // Whether a road is closed by this layer.
     pub(super) fn owns(&self, road: u32) -> bool
-        ensures { result ≡ (has road (items self.now.table) && numbered (B.Roads.meaning self.now.below).roads road) }
+        ensures { result ≡ (has road self.now.table && numbered (B.Roads.meaning self.now.below).roads road) }
     {
-        self.table.contains(road) && is_road(self.below.roads(), road)
+        self.table.contains(road) && self.below.has_road(road)
     }
 }
 
 impl<B: Roads> Roads for ClosingsLayer<B> {
-    ghost meaning = { λ s. opened (B.Roads.meaning s.below) (layered (B.Roads.meaning s.below) (items s.table)) };
+    ghost meaning = { λ s. opened (B.Roads.meaning s.below) (layered (B.Roads.meaning s.below) s.table) };
 
     ghost sound = { λ s.
         let w = B.Roads.meaning s.below in
-        opened_sound w (layered w (items s.table)) (B.Roads.sound s.below) };
+        opened_sound w (layered w s.table) (B.Roads.sound s.below) };
 
     fn junctions(&self) -> u32 {
         self.below.junctions()

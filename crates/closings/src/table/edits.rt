@@ -1,49 +1,46 @@
-ghost use Rattle.std.specs.Prelude.{◌≡◌, ◌<◌, ◌≤◌, false, ◌&&◌, [], ◌∷◌, ◌++◌, length};
-ghost use Rattle.roads.specs.RoadLists.{has};
+ghost use Rattle.std.specs.Prelude.{◌≡◌, ◌<◌, ◌≤◌, true, false, ◌&&◌, [], ◌∷◌, ◌++◌, length, filter, count_by};
+ghost use Rattle.roads.specs.RoadLists.{has, distinct};
 ghost use Rattle.roads.specs.Networks.{numbered};
 ghost use Rattle.closings.specs.Closures.{tally};
-ghost use Rattle.closings.specs.Tables.{items, kept, other_road};
+ghost use Rattle.closings.specs.Tables.{other_road};
 
-use super::Table;
+use super::{CAPACITY, Table};
 
 impl Table {
     pub(crate) fn new() -> Table
-        ensures { items result ≡ [] }
+        ensures { result ≡ [] }
     {
         Table {
-            slots: [0; 32],
+            slots: [0; CAPACITY],
             count: 0,
         }
     }
 
-    pub(crate) fn contains(&self, road: u32) -> bool
-        ensures { result ≡ has road (items self.now) }
+    fn numbers(&self) -> &[u32]
+        ensures all { result.now ≡ self.now }
+        ensures few { length self.now ≤ CAPACITY }
+        ensures once { distinct self.now ≡ true }
     {
-        for i in 0..self.count {
-            if self.slots[i] == road {
-                return true;
-            }
-        }
-        false
+        &self.slots[..self.count]
     }
 
-    // How many of the numbers are roads, of which there are m.
-    pub(crate) fn count_roads(&self, m: u32) -> u32
-        ensures { result ≡ tally (λ q. has q (items self.now) && numbered m q) m }
+    pub(crate) fn contains(&self, road: u32) -> bool
+        ensures { result ≡ has road self.now }
     {
-        let mut count = 0;
-        for i in 0..self.count {
-            if is_road(m, self.slots[i]) {
-                count += 1;
-            }
-        }
-        count
+        self.numbers().contains(&road)
+    }
+
+    // How many of m roads are among the numbers.
+    pub(crate) fn count_roads(&self, m: u32) -> u32
+        ensures { result ≡ tally (λ q. has q self.now && numbered m q) m }
+    {
+        count_numbered(self.numbers(), m) as u32
     }
 
     pub(crate) fn push(&mut self, road: u32)
-        requires new { has road (items self.old) ≡ false }
-        requires room { length (items self.old) < 32 }
-        ensures { items self.new ≡ items self.old ++ (road ∷ []) }
+        requires new { has road self.old ≡ false }
+        requires room { length self.old < CAPACITY }
+        ensures { self.new ≡ self.old ++ (road ∷ []) }
     {
         self.slots[self.count] = road;
         self.count += 1;
@@ -51,25 +48,32 @@ impl Table {
 
     // A table of the numbers that are roads, of which there are m, but for one.
     pub(crate) fn without(&self, road: u32, m: u32) -> Table
-        ensures rest { items result ≡ kept (other_road m road) (items self.now) }
-        ensures gone { has road (items result) ≡ false }
-        ensures few { length (items result) ≤ tally (λ q. has q (items self.now) && numbered m q) m }
+        ensures rest { result ≡ filter (other_road m road) self.now }
+        ensures gone { has road result ≡ false }
+        ensures few { length result ≤ tally (λ q. has q self.now && numbered m q) m }
     {
         let mut table = Table::new();
-        for i in 0..self.count {
-            let x = self.slots[i];
-            if is_other_road(m, road, x) {
-                table.push(x);
+        for x in self.numbers() {
+            if is_other_road(m, road, *x) {
+                table.push(*x);
             }
         }
         table
     }
 }
 
-pub(crate) fn is_road(m: u32, road: u32) -> bool
+// How many of some numbers are roads, of which there are m.
+fn count_numbered(numbers: &[u32], m: u32) -> usize
+    ensures count { result ≡ count_by (numbered m) numbers.now }
+    ensures few { result ≤ length numbers.now }
+{
+    numbers.iter().filter(|x| is_road(m, **x)).count()
+}
+
+fn is_road(m: u32, road: u32) -> bool
     ensures { result ≡ numbered m road }
 {
-    road >= 1 && road <= m
+    (1..=m).contains(&road)
 }
 
 fn is_other_road(m: u32, road: u32, x: u32) -> bool

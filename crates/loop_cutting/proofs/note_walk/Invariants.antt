@@ -5,5 +5,7 @@ use Rattle.loop_cutting.proofs.note_walk.Given as goal
 
 abbrev pub invariant-loop-arc : goal.invariant-loop-arc
 invariant-loop-arc l =
-    ((u : ℕ) → exit_at l.exits u ≡ last_exit (take l.arc-index l.walk) u)
-    × (all_fit (drop l.arc-index l.walk) ≡ all_fit l.walk)
+    record {
+      last : (u : ℕ) → exit_at l.exits u ≡ last_exit (take l.arc-index l.walk) u;
+      fit : all_fit (drop l.arc-index l.walk) ≡ all_fit l.walk;
+    }

@@ -1,14 +1,18 @@
 use Rattle.std.proofs.Common.{◌≡◌, ◌-◌, drop}
 use Rattle.walks.specs.Digraphs.{proper}
 use Rattle.search.specs.Turns.{settled_count, Searching}
+use Rattle.search.specs.Runs.{SameRun}
 use Rattle.search.proofs.search.Given as goal
 
-abbrev pub invariant-loop-goal : goal.invariant-loop-goal
-invariant-loop-goal g l =
+abbrev pub invariant-loop-run : goal.invariant-loop-run
+invariant-loop-run g l =
     let graph = proper (g.G.Graph.graph l.graph) in
-    Searching g.G.Charge.Charge.scale graph l.frontier l.labels
-    × (l.frontier.start ≡ l.start)
-    × (drop graph.places l.labels ≡ drop graph.places l.initial.labels)
+    record {
+      same : SameRun l.initial.run l.run;
+      searching : Searching g.G.Charge.Charge.scale graph l.run.frontier.now l.run.labels.now;
+      start : l.run.frontier.now.start ≡ l.start;
+      beyond : drop graph.places l.run.labels.now ≡ drop graph.places l.initial.run.labels.now;
+    }
 
-abbrev pub decreases-loop-goal : goal.decreases-loop-goal
-decreases-loop-goal g l = let n = (g.G.Graph.graph l.graph).places in n - settled_count l.frontier n
+abbrev pub decreases-loop-run : goal.decreases-loop-run
+decreases-loop-run g l = let n = (g.G.Graph.graph l.graph).places in n - settled_count l.run.frontier.now n

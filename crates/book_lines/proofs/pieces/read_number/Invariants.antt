@@ -4,8 +4,9 @@ use Rattle.book_lines.specs.Pieces.{value}
 use Rattle.book_lines.proofs.pieces.read_number.Given as goal
 
 abbrev pub invariant-loop-b : goal.invariant-loop-b
-invariant-loop-b l =
-    (all_ascii_digits l.s ≡ all_ascii_digits (drop l.b-index l.s))
-    × (value 0 l.s ≡ value l.n (drop l.b-index l.s))
-    × (l.n < 10 ^ l.b-index)
-    × (length l.s ≤ 5)
+invariant-loop-b l = record {
+  digits : all_ascii_digits l.s ≡ all_ascii_digits (drop l.b-index l.s);
+  so_far : value 0 l.s ≡ value l.n (drop l.b-index l.s);
+  small : l.n < 10 ^ l.b-index;
+  short : length l.s ≤ 5;
+}

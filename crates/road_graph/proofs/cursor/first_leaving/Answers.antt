@@ -1,7 +1,7 @@
 use Rattle.std.proofs.Common.{ap, ◌∙◌}
 use Rattle.cells.specs.RoadGraphs.{arcs_of}
 use Rattle.road_graph.specs.Cursors.{arcs_from}
-use Rattle.road_graph.proofs.Onward.{from_first}
+use Rattle.roads.proofs.Leaving.{from_first}
 use Rattle.road_graph.proofs.cursor.first_leaving.Goals as goal
 
 pub returns : goal.returns

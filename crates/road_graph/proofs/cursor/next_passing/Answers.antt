@@ -1,8 +1,9 @@
-use Rattle.std.proofs.Common.{◌≡◌, true, false, ◌∷◌, length, sym, ap, ◌∙◌, arith}
+use Rattle.std.proofs.Common.{◌≡◌, true, false, ◌∷◌, length, is_some, sym, ap, ◌∙◌, arith}
 use Rattle.std.proofs.lemmas.Bool.{cond-true, cond-false}
 use Rattle.cells.specs.RoadGraphs.{arcs_of, road_arc}
 use Rattle.road_graph.specs.Cursors.{arcs_from}
-use Rattle.road_graph.proofs.Onward.{from_step, from_no_road, arcs_step}
+use Rattle.roads.proofs.Leaving.{from_step, from_none}
+use Rattle.road_graph.proofs.Onward.{arcs_step}
 use Rattle.road_graph.proofs.cursor.next_passing.Goals as goal
 
 pub returns-then-passes : goal.returns-then-passes
@@ -34,5 +35,7 @@ loop-facts-preserved g c =
 pub returns : goal.returns
 returns g c =
     let w = g.R.Roads.meaning c.args.roads.now in
-    let test = g.P.RoadTest.test c.args.test.now in
-    record { given = c.loop-facts.invariant ∙ ap (arcs_of w test) (from_no_road w c.loop-facts.at.road (sym c.in_default.ensures)); facts = tt }
+    let ok = g.met.R.Roads.sound c.args.roads.now in
+    let r = c.loop-facts.at.road in
+    let none = from_none w ok r (sym (ok.known r) ∙ ap is_some (sym c.in_default.ensures)) in
+    record { given = c.loop-facts.invariant ∙ ap (arcs_of w (g.P.RoadTest.test c.args.test.now)) none; facts = tt }

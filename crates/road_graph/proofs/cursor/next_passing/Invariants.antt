@@ -1,5 +1,6 @@
 use Rattle.std.proofs.Common.{◌≡◌, length}
-use Rattle.road_graph.specs.Cursors.{arcs_from, roads_from}
+use Rattle.roads.specs.Networks.{roads_from}
+use Rattle.road_graph.specs.Cursors.{arcs_from}
 use Rattle.road_graph.proofs.cursor.next_passing.Given as goal
 
 abbrev pub invariant-loop-facts : goal.invariant-loop-facts

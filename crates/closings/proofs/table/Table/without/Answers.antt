@@ -1,39 +1,31 @@
-use Rattle.std.proofs.Common.{◌≡◌, [], ◌∷◌, ◌++◌, length, get_or, take, sym, ap, ◌∙◌, arith}
+use Rattle.std.proofs.Common.{◌≡◌, length, take, filter, slice_index_or, ap, ◌∙◌, arith}
 use Rattle.std.proofs.lemmas.Bool.{and_left}
+use Rattle.std.proofs.lemmas.Grind.{common_steps}
 use Rattle.roads.specs.RoadLists.{has}
-use Rattle.closings.specs.Tables.{items, kept, other_road}
-use Rattle.closings.proofs.Keeping.{has_kept, kept_few_front, kept_more, new_at, others_without}
+use Rattle.closings.specs.Tables.{other_road}
+use Rattle.closings.proofs.Keeping.{has_filter, filter_few, new_at, others_without}
 use Rattle.closings.proofs.Tallies.{others_tally}
 use Rattle.closings.proofs.table.Table.without.Goals as goal
-use Rattle.closings.proofs.table.Table.without.Goals.{then-is_other_road, else-is_other_road}
 
 pub push-requires : goal.push-requires
 push-requires c =
-    let t = c.args.self.now in
+    let xs = c.numbers-x-items.result.now in
+    let i = c.loop-x.x-index in
     let other = other_road c.args.m c.args.road in
-    let x = get_or t.slots c.loop-i.i 0 in
+    let x = slice_index_or xs i 0 in
+    let once = rw (← c.numbers-x-items.ensures.all) at c.numbers-x-items.ensures.once in
+    let few = rw (← c.numbers-x-items.ensures.all) at c.numbers-x-items.ensures.few in
     record {
-      new = ap (has x) c.loop-i.invariant ∙ has_kept other x (take c.loop-i.i t.slots)
-          ∙ and_left (has x (take c.loop-i.i t.slots)) (other x) (new_at t.slots t.count c.loop-i.i c.loop-i-test.true (omega arith) t.once);
-      room = omega (arith, ap length c.loop-i.invariant, kept_few_front other t.slots c.loop-i.i (omega arith));
+      new = ap (has x) c.loop-x.invariant ∙ has_filter other x (take i xs)
+          ∙ and_left (has x (take i xs)) (other x) (new_at xs i c.loop-x-test.true once);
+      room = omega (arith, ap length c.loop-x.invariant, filter_few other xs i (omega arith));
     }
 
-pub loop-i-preserved : goal.loop-i-preserved
-loop-i-preserved c =
-    let t = c.args.self.now in
-    let more = kept_more (other_road c.args.m c.args.road) t.slots c.loop-i.i (omega arith) in
-    elim c.if-is_other_road.branch [
-      | then-is_other_road w ↦ rw (more, sym w.if-is_other_road.ensures) (ap items w.table-is ∙ w.push.ensures ∙ ap (λ xs. xs ++ (get_or t.slots c.loop-i.i 0 ∷ [])) c.loop-i.invariant)
-      | else-is_other_road w ↦ rw (more, sym w.if-is_other_road.ensures) (ap items w.table-is ∙ c.loop-i.invariant)
-    ]
+pub returns-clause-gone : goal.returns-clause-gone
+returns-clause-gone c =
+    ap (has c.args.road) c.loop-x.invariant ∙ others_without c.args.m c.args.road (take c.loop-x.x-index c.numbers-x-items.result.now)
 
-pub returns : goal.returns
-returns c =
-    let t = c.args.self.now in
-    let rest : items c.loop-i.table ≡ kept (other_road c.args.m c.args.road) (items t) =
-    c.loop-i.invariant ∙ ap (λ i. kept (other_road c.args.m c.args.road) (take i t.slots)) (omega arith) in
-    record {
-      rest = rest;
-      gone = rw rest (others_without c.args.m c.args.road (items t));
-      few = rw rest (others_tally c.args.m c.args.road (items t) t.once);
-    }
+pub returns-clause-few : goal.returns-clause-few
+returns-clause-few c =
+    let rest : c.loop-x.table ≡ filter (other_road c.args.m c.args.road) c.args.self.now = grind (arith, common_steps) in
+    rw rest (others_tally c.args.m c.args.road c.args.self.now c.numbers-x-items.ensures.once)

@@ -1,6 +1,6 @@
-use Rattle.std.proofs.Common.{◌≡◌, take}
-use Rattle.closings.specs.Tables.{items, kept, other_road}
+use Rattle.std.proofs.Common.{◌≡◌, filter, take}
+use Rattle.closings.specs.Tables.{other_road}
 use Rattle.closings.proofs.table.Table.without.Given as goal
 
-abbrev pub invariant-loop-i : goal.invariant-loop-i
-invariant-loop-i l = items l.table ≡ kept (other_road l.m l.road) (take l.i l.self.slots)
+abbrev pub invariant-loop-x : goal.invariant-loop-x
+invariant-loop-x l = l.table ≡ filter (other_road l.m l.road) (take l.x-index l.x-items)

@@ -1,18 +1,8 @@
 use Rattle.std.proofs.Common.{ap}
-use Rattle.closings.specs.Layers.{layered}
-use Rattle.closings.specs.Tables.{items}
 use Rattle.closings.proofs.Layering.{layer_closed}
-use Rattle.closings.proofs.Reversing.{closable_road}
 use Rattle.closings.proofs.layer.closing.ClosingsLayerClosable.close.Goals as goal
 
-pub returns : goal.returns
-returns g c =
-    let meaning = g.B.Roads.meaning in
-    let w = meaning c.args.self.now.below in
-    let xs = items c.args.self.now.table in
-    let told = c.in_ok-check_close.ensures in
-    record {
-      told = told;
-      moved = layer_closed w xs c.args.road (meaning c.add.new.self.below) (items c.add.new.self.table)
-          (ap meaning c.add.ensures.below) (closable_road w.roads (layered w xs) c.args.road told) c.add.ensures.table;
-    }
+pub returns-clause-moved : goal.returns-clause-moved
+returns-clause-moved g c =
+    layer_closed (g.B.Roads.meaning c.args.self.now.below) c.args.self.now.table c.args.road (g.B.Roads.meaning c.add.new.self.below) c.add.new.self.table
+    (ap g.B.Roads.meaning c.add.ensures.below) c.in_ok-check_close.ensures c.add.ensures.table

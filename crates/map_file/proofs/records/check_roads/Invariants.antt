@@ -1,7 +1,0 @@
-use Rattle.std.proofs.Common.{◌≡◌, None}
-use Rattle.roads.specs.Faults.{first_below}
-use Rattle.map_file.specs.Checks.{road_fault}
-use Rattle.map_file.proofs.records.check_roads.Given as goal
-
-abbrev pub invariant-loop-i : goal.invariant-loop-i
-invariant-loop-i l = first_below (road_fault l.bytes) l.i ≡ None

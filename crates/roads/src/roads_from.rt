@@ -1,0 +1,58 @@
+//! The roads that leave a junction, one by one.
+ghost use Rattle.std.specs.Prelude.{◌≡◌, true, ◌∷◌};
+ghost use Rattle.std.specs.Iterator.{YieldsFirst, item_count};
+ghost use Rattle.roads.specs.Networks.{numbered, next_leaving, roads_from};
+
+use crate::Roads;
+
+/// The roads that leave a junction, one by one, in the order of its leaving list.
+#[derive(Drop)]
+pub struct RoadsFrom<'a, R: Roads> {
+    roads: &'a R,
+    road: u32,
+}
+
+impl<'a, R: Roads> RoadsFrom<'a, R> {
+    #[tactic(auto, using(crate::proofs::Leaving::from_first))]
+    pub fn new(roads: &'a R, junction: u32) -> RoadsFrom<'a, R>
+        ensures { roads_from (R.Roads.meaning result.roads.now) result.road ≡ (R.Roads.meaning roads.now).leaving junction }
+    {
+        RoadsFrom {
+            roads,
+            road: roads.first(junction),
+        }
+    }
+
+    // The road after the one that stands here.
+    fn after(&self) -> u32
+        ensures { result ≡ next_leaving (R.Roads.meaning self.now.roads.now) self.now.road }
+    {
+        self.roads.after(self.road)
+    }
+
+    // Gives the road that stands here, and goes on to the next.
+    fn pass(&mut self) -> u32
+        requires { numbered (R.Roads.meaning self.old.roads.now).roads self.old.road ≡ true }
+        ensures { roads_from (R.Roads.meaning self.old.roads.now) self.old.road ≡ result ∷ roads_from (R.Roads.meaning self.new.roads.now) self.new.road }
+    {
+        let road = self.road;
+        self.road = self.after();
+        road
+    }
+}
+
+impl<'a, R: Roads> Iterator for RoadsFrom<'a, R> {
+    type Item = u32;
+
+    ghost next_gives = { YieldsFirst (λ s. roads_from (R.Roads.meaning s.roads.now) s.road) };
+
+    ghost remaining = { item_count (λ s. roads_from (R.Roads.meaning s.roads.now) s.road) };
+
+    #[tactic(auto, using(crate::proofs::Leaving::from_none))]
+    fn next(&mut self) -> Option<u32> {
+        if !self.roads.has_road(self.road) {
+            return None;
+        }
+        Some(self.pass())
+    }
+}
