@@ -1,9 +1,7 @@
 //! What the board says of a road, and how many roads are open.
-ghost use Rattle.std.specs.Prelude.{◌≡◌, ◌≤◌, Some, count_by};
-ghost use Rattle.std.specs.List.{range_with_len};
+ghost use Rattle.std.specs.Prelude.{◌≡◌, ◌≤◌, Some};
 ghost use Rattle.std.specs.Option.{option_map};
-ghost use Rattle.roads.specs.Networks.{is_open};
-ghost use Rattle.board.specs.Rows.{row_for, row_text, tallied, tally_text};
+ghost use Rattle.board.specs.Rows.{row_for, row_text, open_count, tallied, tally_text};
 
 use charge::{BlendTariff, Tariff};
 use roads::Roads;
@@ -42,7 +40,7 @@ pub fn row_of<R: Roads>(roads: &R, road: u32) -> Option<Row>
 
 // How many roads are open.
 fn open_roads<R: Roads>(roads: &R) -> u32
-    ensures counted { let w = R.Roads.meaning roads.now in result ≡ count_by (λ r. is_open (w.facts r)) (range_with_len 1 w.roads) }
+    ensures counted { result ≡ open_count (R.Roads.meaning roads.now) }
     ensures few { result ≤ (R.Roads.meaning roads.now).roads }
 {
     (1..=roads.roads())
@@ -51,7 +49,6 @@ fn open_roads<R: Roads>(roads: &R) -> u32
 }
 
 /// Counts the open and the closed roads.
-#[tactic(auto, using(closings::proofs::Tallies::tally_counts))]
 pub fn count_open<R: Roads>(roads: &R) -> Tally
     ensures { result ≡ tallied (R.Roads.meaning roads.now) }
 {

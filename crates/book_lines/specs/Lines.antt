@@ -26,11 +26,12 @@ first_line s = before 10 s
 abbrev pub later_lines : List ℕ → List ℕ
 later_lines s = unwrap_or (behind 10 s) []
 
--- the lines of a text: each ends at a line feed, and there is none after the last one
+-- a byte put before the first of some lines, or alone where there is none
 abbrev pub onto : ℕ → List (List ℕ) → List (List ℕ)
 onto x [] = (x ∷ []) ∷ []
 onto x (line ∷ rest) = (x ∷ line) ∷ rest
 
+-- the lines of a text: each ends at a line feed, and there is none after the last one
 abbrev pub lines_of : List ℕ → List (List ℕ)
 lines_of [] = []
 lines_of (x ∷ xs) = cond (x == 10) ([] ∷ lines_of xs) (onto x (lines_of xs))

@@ -1,8 +1,8 @@
 -- The total of a list is the total so far, joined before that of what is left.
-use Rattle.std.proofs.Common.{◌≡◌, ℕ, ◌+◌, ◌<◌, ◌≤◌, List, ◌∷◌, length, get_or, drop, Some, None, Option, sym, refl, ap, ◌∙◌}
-use Rattle.std.proofs.lemmas.List.{at_drop_more, at_drop_all}
+use Rattle.std.proofs.Common.{◌≡◌, ℕ, ◌+◌, ◌<◌, List, ◌∷◌, length, get_or, drop, Some, None, Option, sym, refl, ap, ◌∙◌}
+use Rattle.std.proofs.lemmas.List.{at_drop_more}
 use Rattle.roads.specs.declared.facts.Facts.{Facts}
-use Rattle.charge.specs.Scales.{Scale, Associative, Neutral, total}
+use Rattle.charge.specs.Scales.{Scale, Associative, total}
 use Rattle.charge.specs.Totals.{both, charge_of, charges_of, total_along}
 
 module _ {C : Type 0} (s : Scale C) where
@@ -34,6 +34,3 @@ module _ {C : Type 0} (s : Scale C) (facts : ℕ → Option Facts) (price : ℕ 
       ∙ ap (both s.joined (Some t)) (total_both s charge (charges_of facts price rest))
       ∙ both_regroup s law (Some t) charge (total_along s facts price rest)
       ∙ ap (λ p. both s.joined p (total_along s facts price rest)) (sym e)
-
-  pub and_then_all : Neutral s → (t : C) (i : ℕ) (list : List ℕ) → length list ≤ i → and_then t (drop i list) ≡ Some t
-  and_then_all law t i list past = at_drop_all (and_then t) list i past ∙ ap Some (law.right t)

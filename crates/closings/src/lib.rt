@@ -9,7 +9,7 @@ mod checks;
 mod layer;
 mod table;
 
-pub use checks::{check_closed, check_not_closed};
+pub use checks::check_road;
 pub use layer::ClosingsLayer;
 use roads::Roads;
 use roads::fault::Fault;

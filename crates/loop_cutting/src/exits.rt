@@ -50,6 +50,7 @@ impl Exits {
     }
 
     /// Writes the roads from a start by the exits to a goal, at most so many; `None` where the list is too short.
+    // Kept: a way is written into a lent list and told by its count, a rule of the project.
     pub fn write_way(&self, start: u32, goal: u32, most: usize, way: &mut [u32]) -> Option<usize>
         ensures count { result ≡ room_for (follow (exit_at self.now) goal most start) (length way.old) }
         ensures written { way.new ≡ (if is_some result then map (λ x. x.road) (follow (exit_at self.now) goal most start) ++ drop (length (follow (exit_at self.now) goal most start)) way.old else way.old) }

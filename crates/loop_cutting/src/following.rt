@@ -13,6 +13,7 @@ use walks::Arc;
 pub(crate) struct Following<'a> {
     exits: &'a Exits,
     goal: u32,
+    // Kept: the exits may lead in a ring, so the iterator says itself how many arcs may come, which a `take` around it would not.
     left: usize,
     here: u32,
 }

@@ -11,6 +11,7 @@ use super::records::{read_junction, read_road};
 use roads::fault::{Fault, Part, Refusal};
 
 /// The tail of each road at its number, where one is known. Entry 0 is no road's.
+// Kept: that a table is that of some bytes is the promise of the checks; table and bytes are one struct as `ChainedMap`.
 pub type TailTable = [Option<u16>; 4097];
 
 // Gives a road its tail; refused where it has one.
@@ -61,7 +62,7 @@ impl Records<'_> {
         ensures tails { OnOk result (TailsBelow self.now.bytes.now (junction + 1) tails.new) }
     {
         let mut road = self.first(junction);
-        // Kept: a chain is followed from road to road, and no index is counted; an iterator over it would hold this loop once more.
+        // Kept: 0 ends a chain in the file, a rule of its format, and no index is counted.
         while road != 0 {
             give_tail(tails, road, junction)?;
             road = self.next(road);

@@ -114,6 +114,7 @@ impl<'a> Header<'a> {
         Ok(())
     }
 
+    // Kept: a function for both would take the count and the check, and is no shorter than these two loops.
     #[tactic(auto, using(roads::proofs::Firsts::none_more, roads::proofs::Firsts::first_is))]
     fn check_roads(&self) -> Result<(), Fault>
         ensures { reported result ≡ first_below (road_fault self.now.bytes.now) (road_count self.now.bytes.now) }

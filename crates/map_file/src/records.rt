@@ -4,8 +4,10 @@ ghost use Rattle.map_file.specs.Layout.{field};
 ghost use Rattle.map_file.specs.Records.{junction_of, place_of, road_of};
 
 use super::fields::{junction_count, read_field, road_count};
+use roads::is_numbered;
 
 /// A junction as a file has it: its code, and the first road of its chain or 0.
+// Kept: the fields as they are in the file, where 0 ends a chain.
 #[derive(Clone, Copy, PartialEq, Eq, Debug)]
 pub struct JunctionRecord {
     pub code: u16,
@@ -13,6 +15,7 @@ pub struct JunctionRecord {
 }
 
 /// A road as a file has it: its head, the next road of its chain or 0, its measures, and its mark.
+// Kept: the fields as they are in the file, read before the mark is known to be 0 or 1.
 #[derive(Clone, Copy, PartialEq, Eq, Debug)]
 pub struct RoadRecord {
     pub head: u16,
@@ -20,7 +23,6 @@ pub struct RoadRecord {
     pub seconds: u16,
     pub metres: u16,
     pub limit: u16,
-    // Kept: the field as it is, which is read before it is known to be 0 or 1.
     pub mark: u16,
 }
 
@@ -64,7 +66,7 @@ pub fn read_junction(bytes: &[u8], junction: u32) -> Option<JunctionRecord>
 pub fn road_place(bytes: &[u8], road: u32) -> Option<u32>
     ensures { result ≡ place_of bytes.now road }
 {
-    if !(1..=road_count(bytes)).contains(&road) {
+    if !is_numbered(road_count(bytes), road) {
         return None;
     }
     Some(6 + 4 * junction_count(bytes) + 12 * (road - 1))

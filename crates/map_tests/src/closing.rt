@@ -3,21 +3,14 @@ use super::samples::*;
 use chained_map::ChainedMap;
 use closings::{Closable, ClosingsLayer, close_and_reopen};
 use roads::Roads;
-use roads::fault::{Fault, Part, Report};
+use roads::fault::{Fault, Part};
 use std::test::Fail;
 
 fn says(answer: Result<(), Fault>, number: u8, place: usize, part: Part) -> Result<(), Fail> {
     let Err(fault) = answer else {
         return Err(Fail::new("accepted"));
     };
-    check_eq(
-        Report::from(fault),
-        Report {
-            number,
-            place,
-            part,
-        },
-    )
+    tells(fault, number, place, part)
 }
 
 fn shows<R: Roads>(roads: &R, open: [bool; 5]) -> Result<(), Fail> {

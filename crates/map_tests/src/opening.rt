@@ -100,6 +100,7 @@ fn first_bad_field(rt: HostRuntime) -> Result<(), Fail> {
         (Field::Mark(5), 2),
         (Field::Next(4), 4),
     ];
+    // Kept: the i-th place goes with all changes from the i-th on, so the two lists are no pairs.
     for (i, place) in places.iter().enumerate() {
         worked_refuses(rt.alloc(), &changes[i..], 3, *place)?;
     }

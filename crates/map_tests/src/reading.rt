@@ -36,73 +36,25 @@ fn has_worked_junctions(map: &ChainedMap, heap: Global) -> Result<(), Fail> {
     check_eq(map.codes(heap)?.as_slice(), &[0, 0, 1, 1])
 }
 
+// The facts of an open road.
+fn open_road(tail: u32, head: u32, seconds: u16, metres: u16, limit: u16) -> Facts {
+    Facts {
+        tail,
+        head,
+        seconds,
+        metres,
+        limit,
+        open: true,
+    }
+}
+
 fn has_worked_roads(map: &ChainedMap) -> Result<(), Fail> {
     has_road(map, 0, None, 0)?;
-    has_road(
-        map,
-        1,
-        Some(Facts {
-            tail: 0,
-            head: 1,
-            seconds: 10,
-            metres: 35,
-            limit: 180,
-            open: true,
-        }),
-        3,
-    )?;
-    has_road(
-        map,
-        2,
-        Some(Facts {
-            tail: 1,
-            head: 2,
-            seconds: 20,
-            metres: 20,
-            limit: 75,
-            open: true,
-        }),
-        0,
-    )?;
-    has_road(
-        map,
-        3,
-        Some(Facts {
-            tail: 0,
-            head: 2,
-            seconds: 100,
-            metres: 50,
-            limit: 400,
-            open: true,
-        }),
-        0,
-    )?;
-    has_road(
-        map,
-        4,
-        Some(Facts {
-            tail: 2,
-            head: 3,
-            seconds: 0,
-            metres: 25,
-            limit: 260,
-            open: true,
-        }),
-        0,
-    )?;
-    has_road(
-        map,
-        5,
-        Some(Facts {
-            tail: 3,
-            head: 2,
-            seconds: 10,
-            metres: 10,
-            limit: 260,
-            open: true,
-        }),
-        0,
-    )?;
+    has_road(map, 1, Some(open_road(0, 1, 10, 35, 180)), 3)?;
+    has_road(map, 2, Some(open_road(1, 2, 20, 20, 75)), 0)?;
+    has_road(map, 3, Some(open_road(0, 2, 100, 50, 400)), 0)?;
+    has_road(map, 4, Some(open_road(2, 3, 0, 25, 260)), 0)?;
+    has_road(map, 5, Some(open_road(3, 2, 10, 10, 260)), 0)?;
     has_road(map, 6, None, 0)
 }
 
@@ -133,32 +85,12 @@ fn greatest_fields(rt: HostRuntime) -> Result<(), Fail> {
     )?)?;
     has_junction(&map, heap, 2, Some(1), 4, &[4, 5])?;
     has_junction(&map, heap, 3, Some(1), 0, &[])?;
-    has_road(
-        &map,
-        2,
-        Some(Facts {
-            tail: 1,
-            head: 2,
-            seconds: 20,
-            metres: 20,
-            limit: 75,
-            open: false,
-        }),
-        0,
-    )?;
-    has_road(
-        &map,
-        5,
-        Some(Facts {
-            tail: 2,
-            head: 2,
-            seconds: 10,
-            metres: 10,
-            limit: 260,
-            open: true,
-        }),
-        0,
-    )
+    let closed = Facts {
+        open: false,
+        ..open_road(1, 2, 20, 20, 75)
+    };
+    has_road(&map, 2, Some(closed), 0)?;
+    has_road(&map, 5, Some(open_road(2, 2, 10, 10, 260)), 0)
 }
 
 #[test]

@@ -1,7 +1,7 @@
 //! Map files made for the tests, and checks of what opening says of them.
 use chained_map::{ChainedMap, RefusedMap};
 use map_file::{JunctionRecord, RoadRecord};
-use roads::fault::{Part, Report};
+use roads::fault::{Fault, Part, Report};
 use std::alloc::{AllocError, Global};
 use std::fmt::Debug;
 use std::test::Fail;
@@ -144,20 +144,25 @@ pub(crate) fn accepts(file: Vec<u8>) -> Result<ChainedMap, Fail> {
     ChainedMap::open(file).map_err(|refused| Fail::new(Report::from(refused.fault)))
 }
 
+/// Checks the number, the place and the part of a fault.
+pub(crate) fn tells(fault: Fault, number: u8, place: usize, part: Part) -> Result<(), Fail> {
+    check_eq(
+        Report::from(fault),
+        Report {
+            number,
+            place,
+            part,
+        },
+    )
+}
+
 /// Checks that opening refuses a file by this number and place, and hands its bytes back as they were.
 pub(crate) fn refuses(file: Vec<u8>, number: u8, place: usize) -> Result<(), Fail> {
     let copy = file.clone()?;
     let Err(RefusedMap { fault, bytes }) = ChainedMap::open(file) else {
         return Err(Fail::new("accepted"));
     };
-    check_eq(
-        Report::from(fault),
-        Report {
-            number,
-            place,
-            part: Part::Map,
-        },
-    )?;
+    tells(fault, number, place, Part::Map)?;
     check_eq(bytes, copy)
 }
 

@@ -3,7 +3,7 @@ ghost use Rattle.std.specs.Prelude.{◌≡◌, ◌==◌, Bool, slice_index};
 ghost use Rattle.roads.specs.declared.facts.Facts.{Facts};
 ghost use Rattle.cells.specs.Cells.{cell};
 ghost use Rattle.cells.specs.RoadGraphs.{stays_inside};
-ghost use Rattle.road_graph.specs.Cursors.{surveyed};
+ghost use Rattle.road_graph.specs.Surveys.{surveyed};
 
 use cells::cell_of;
 use roads::facts::Facts;

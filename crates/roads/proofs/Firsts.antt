@@ -1,14 +1,9 @@
 -- The first check that fails among many.
-use Rattle.std.proofs.Common.{◌≡◌, ℕ, zero, suc, ◌+◌, ◌<◌, Bool, true, false, IfOk, Some, None, Ok, Err, Option, Result, refl, ⊎_elim, add-one, arith}
+use Rattle.std.proofs.Common.{◌≡◌, ℕ, zero, suc, ◌+◌, ◌<◌, Bool, true, false, Some, None, Option, refl, ⊎_elim, add-one, arith}
 use Rattle.std.proofs.lemmas.Bool.{cases_eq}
 use Rattle.roads.specs.declared.fault.Report.{Report}
 use Rattle.roads.specs.declared.fault.Part.{Part}
 use Rattle.roads.specs.Faults.{unless, or_else, first_below}
-
--- what holds in any case holds of an accepted call
-pub made_always : {X Y : Type 0} (P : Type 0) (r : Result X Y) → P → IfOk r (λ _. P)
-made_always P (Ok x) p = p
-made_always P (Err e) p = tt
 
 -- a check that passes, and one that fails
 pub unless_holds : (b : Bool) (n p : ℕ) (q : Part) → None ≡ unless b n p q → b ≡ true

@@ -5,10 +5,10 @@ ghost use Rattle.roads.specs.Faults.{number, report, reported, unless};
 
 use std::fmt;
 
-/// Why a call is refused.
+/// Why a call is refused, by its number.
 #[derive(Clone, Copy, PartialEq, Eq, Debug)]
 pub enum Refusal {
-    Length,
+    Length = 1,
     Limits,
     Field,
     Chain,
@@ -42,7 +42,7 @@ pub struct Fault {
 }
 
 /// A fault as it is told: its number, its place, and the part that found it.
-// Kept: a report tells a refusal by its number, which is what a user looks up; `Fault` has the enum.
+// Kept: what is refused is defined by reports, and a report tells a refusal by the number that a user looks up.
 #[derive(Clone, Copy, PartialEq, Eq, Debug)]
 pub struct Report {
     pub number: u8,
@@ -53,24 +53,8 @@ pub struct Report {
 impl From<Refusal> for u8 {
     ghost from_gives = { λ x n. n ≡ number x };
 
-    // Kept: numbers on the variants would be as many lines, and a cast besides.
     fn from(refusal: Refusal) -> u8 {
-        match refusal {
-            Refusal::Length => 1,
-            Refusal::Limits => 2,
-            Refusal::Field => 3,
-            Refusal::Chain => 4,
-            Refusal::Junction => 5,
-            Refusal::Road => 6,
-            Refusal::Already => 7,
-            Refusal::NotClosed => 8,
-            Refusal::Full => 9,
-            Refusal::NotReady => 10,
-            Refusal::Short => 11,
-            Refusal::NoWay => 12,
-            Refusal::FalseSheet => 13,
-            Refusal::Line => 14,
-        }
+        refusal as u8
     }
 }
 

@@ -41,7 +41,7 @@ pub trait Roads {
     final fn has_road(&self, road: u32) -> bool
         ensures { result ≡ numbered (meaning self.now).roads road }
     {
-        (1..=self.roads()).contains(&road)
+        is_numbered(self.roads(), road)
     }
 
     /// Whether a road is open; one that is none is not.
@@ -52,6 +52,13 @@ pub trait Roads {
     }
 
     ghost sound: { (s : Self) → WellFormed (meaning s) };
+}
+
+/// Whether there is a road of this number among so many.
+pub fn is_numbered(roads: u32, road: u32) -> bool
+    ensures { result ≡ numbered roads road }
+{
+    (1..=roads).contains(&road)
 }
 
 /// The roads that leave a junction, in the order of its leaving list.

@@ -20,7 +20,7 @@ struct Step {
 const NO_STEP: Step = Step { tail: 0, road: 0 };
 
 /// What a search keeps of each place: its mark, whether it waits, and the arc by which it was reached.
-// Kept: a step has no mark in it, so that a search begins with one fill of the marks and leaves the steps as they were.
+// Kept: marks and queue keep each other, for which `Places` is there; a step has no part in that, and is none's until a mark says so.
 #[derive(Drop)]
 pub struct Frontier {
     start: u32,

@@ -4,6 +4,8 @@ ghost use Rattle.std.specs.Prelude.{◌≡◌, ◌<◌, length, slice_index_or, 
 use charge::Charge;
 use walks::ChargedArc;
 
+// Kept: labels are lent lists, a rule of the project; that there is one for each place is kept by `Run`, and handed down from it.
+
 // One label is neutral.
 pub(crate) fn reset<C: Charge>(labels: &mut [C], i: usize)
     requires { i < length labels.old }

@@ -55,7 +55,6 @@ pub fn wipe<C: Charge>(labels: &mut [C], n: usize)
     ensures { labels.new ≡ replicate (min n (length labels.old)) C.Charge.scale.neutral ++ drop n labels.old }
 {
     let count = n.min(labels.len());
-    // Kept: a loop and not `fill`, which asks that the charge's clone cannot fail, and `Charge` does not say so.
     for label in labels[..count].iter_mut() {
         *label = C::neutral();
     }

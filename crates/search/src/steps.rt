@@ -1,5 +1,5 @@
 //! The steps of a search.
-ghost use Rattle.std.specs.Prelude.{◌≡◌, ℕ, ◌+◌, ◌<◌, ◌≤◌, true, false, length, drop, slice_index_or};
+ghost use Rattle.std.specs.Prelude.{◌≡◌, ℕ, ◌+◌, ◌<◌, true, false, drop, slice_index_or};
 ghost use Rattle.walks.specs.Digraphs.{leads, proper};
 ghost use Rattle.search.specs.Found.{can_run, Answered, Asked};
 ghost use Rattle.search.specs.Turns.{size_of, is_goal, settled_count, Searching, Scanning, Offered, Kept};
@@ -54,15 +54,15 @@ impl<'a, G: Graph> Run<'a, G> {
         ensures kept { Kept (G.Graph.graph self.old.graph.now).places self.old.frontier.now self.old.labels.now self.new.frontier.now self.new.labels.now }
     {
         let graph = self.graph;
-        let mut at = graph.leaving(place);
-        while let Some(by) = graph.next_arc(&mut at) {
+        for by in graph.leaving(place) {
             if leads(graph, place, by.arc) {
                 self.relax(by);
             }
         }
     }
 
-    // Settles a waiting place and, unless it is the goal, deals with its arcs. False where the search is over.
+    // Settles a waiting place and, unless it is the goal, deals with its arcs. Whether the search goes on.
+    // Kept: a loop's condition is a bool; an answer that breaks it off would be turned into one.
     pub(crate) fn turn(&mut self, goal: Option<u32>) -> bool
         requires { Searching G.Charge.Charge.scale (proper (G.Graph.graph self.old.graph.now)) self.old.frontier.now self.old.labels.now }
         ensures same { SameRun self.old self.new }

@@ -1,5 +1,5 @@
 /// An arc from place to place: a road by its number, or with number 0 a shortcut.
-// Kept: `road` is a plain number, as in the lent lists, where 0 is no road; of an `Option` each arc would have to show it is not `Some(0)`
+// Kept: `road` is a plain number, as in the lent way lists, where 0 is no road, a rule of the project.
 #[derive(Clone, Copy, PartialEq, Eq, Debug)]
 pub struct Arc {
     pub tail: u32,

@@ -8,10 +8,10 @@ ghost use Rattle.chained_map.specs.Closed.{marked};
 ghost use Rattle.chained_map.specs.Coherence.{map_coherent};
 
 use super::ChainedMap;
-use closings::{Closable, check_closed, check_not_closed};
+use closings::{Closable, check_road};
 use map_file::road_count;
 use roads::Roads;
-use roads::fault::{Fault, Part};
+use roads::fault::{Fault, Part, Refusal};
 
 impl Closable for ChainedMap {
     ghost closures = { λ x. marked (file x) };
@@ -43,7 +43,13 @@ impl Closable for ChainedMap {
         ensures moved { Moved true road result (network (file self.old)) (marked (file self.old)) (network (file self.new)) (marked (file self.new)) }
         ensures bytes { file self.new ≡ (if is_ok result then with_mark 1 road (file self.old) else file self.old) }
     {
-        check_not_closed(self, self.is_marked(road), road, Part::Map)?;
+        check_road(
+            self,
+            !self.is_marked(road),
+            Refusal::Already,
+            road,
+            Part::Map,
+        )?;
         self.write_mark(road, true);
         Ok(())
     }
@@ -54,7 +60,13 @@ impl Closable for ChainedMap {
         ensures moved { Moved false road result (network (file self.old)) (marked (file self.old)) (network (file self.new)) (marked (file self.new)) }
         ensures bytes { file self.new ≡ (if is_ok result then with_mark 0 road (file self.old) else file self.old) }
     {
-        check_closed(self, self.is_marked(road), road, Part::Map)?;
+        check_road(
+            self,
+            self.is_marked(road),
+            Refusal::NotClosed,
+            road,
+            Part::Map,
+        )?;
         self.write_mark(road, false);
         Ok(())
     }

@@ -8,7 +8,7 @@ ghost use Rattle.closings.specs.Coherence.{layered_coherent};
 
 use super::ClosingsLayer;
 use crate::table::CAPACITY;
-use crate::{Closable, check_closed, check_not_closed};
+use crate::{Closable, check_road};
 use roads::Roads;
 use roads::fault::{Fault, Part, Refusal};
 
@@ -17,7 +17,7 @@ impl<B: Roads> ClosingsLayer<B> {
     fn check_close(&self, road: u32) -> Result<(), Fault>
         ensures { let w = B.Roads.meaning self.now.below in reported result ≡ close_fault w.roads (layered w self.now.table) road }
     {
-        check_not_closed(self, self.owns(road), road, Part::Layer)?;
+        check_road(self, !self.owns(road), Refusal::Already, road, Part::Layer)?;
         let room = self.closed_count() < self.capacity();
         Fault::unless(room, Refusal::Full, road as usize, Part::Layer)
     }
@@ -71,7 +71,7 @@ impl<B: Roads> Closable for ClosingsLayer<B> {
     }
 
     fn reopen(&mut self, road: u32) -> Result<(), Fault> {
-        check_closed(self, self.owns(road), road, Part::Layer)?;
+        check_road(self, self.owns(road), Refusal::NotClosed, road, Part::Layer)?;
         self.remove(road);
         Ok(())
     }

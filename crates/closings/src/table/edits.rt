@@ -5,6 +5,7 @@ ghost use Rattle.closings.specs.Closures.{tally};
 ghost use Rattle.closings.specs.Tables.{other_road};
 
 use super::{CAPACITY, Table};
+use roads::is_numbered;
 
 impl Table {
     pub(crate) fn new() -> Table
@@ -67,17 +68,11 @@ fn count_numbered(numbers: &[u32], m: u32) -> usize
     ensures count { result ≡ count_by (numbered m) numbers.now }
     ensures few { result ≤ length numbers.now }
 {
-    numbers.iter().filter(|x| is_road(m, **x)).count()
-}
-
-fn is_road(m: u32, road: u32) -> bool
-    ensures { result ≡ numbered m road }
-{
-    (1..=m).contains(&road)
+    numbers.iter().filter(|x| is_numbered(m, **x)).count()
 }
 
 fn is_other_road(m: u32, road: u32, x: u32) -> bool
     ensures { result ≡ other_road m road x }
 {
-    is_road(m, x) && x != road
+    is_numbered(m, x) && x != road
 }

@@ -14,7 +14,7 @@ pub(super) enum Mark {
 }
 
 // The marks of so many places, and at the front of the queue those that wait.
-// Kept: a planner has no heap, so the queue is a fixed buffer with its length beside it.
+// Kept: a rule of the project: a planner keeps 2048 places for its queue inside itself; `Places` keeps the bounds between steps.
 #[derive(Drop)]
 pub(super) struct Lists {
     size: usize,

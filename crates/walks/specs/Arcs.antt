@@ -1,0 +1,10 @@
+-- How arcs are given one by one.
+use Rattle.std.specs.Prelude.{◌≡◌, List, [], ◌∷◌, None, Option, MatchOption}
+use Rattle.walks.specs.declared.arcs.Arc.{Arc}
+use Rattle.walks.specs.declared.arcs.ChargedArc.{ChargedArc}
+
+-- calls of `next` from s on give just these arcs in order, each with its charge
+abbrev pub Gives : {S C : Type 0} → (S → Option (ChargedArc C) → S → Type 0) → (Arc → C) → S → List Arc → Type 0
+Gives {S} {C} steps charge s [] = (r : Option (ChargedArc C)) (t : S) → steps s r t → r ≡ None
+Gives {S} {C} steps charge s (x ∷ xs) =
+    (r : Option (ChargedArc C)) (t : S) → steps s r t → MatchOption r ⊥ (λ y. (y.arc ≡ x) × (y.charge ≡ charge x) × Gives steps charge t xs)
