@@ -18,6 +18,7 @@ pub fn total_along<R: Roads, F: Tariff>(roads: &R, tariff: &F, list: &[u32]) -> 
 }
 
 // A total with one road more; `None` where there is no such road.
+#[inline(always)]
 fn with_road<R: Roads, F: Tariff>(
     roads: &R,
     tariff: &F,

@@ -1,4 +1,4 @@
-//! What is checked of a road before it is closed or reopened, by whichever part.
+//! Whether there is a road and a test of it holds, for whichever part.
 ghost use Rattle.std.specs.Prelude.{◌≡◌};
 ghost use Rattle.roads.specs.Faults.{number, reported, unless, or_else};
 ghost use Rattle.roads.specs.Networks.{numbered};
@@ -7,6 +7,7 @@ use roads::Roads;
 use roads::fault::{Fault, Part, Refusal};
 
 /// Refuses what is no road, and then a road of which the test does not hold.
+#[inline(always)]
 pub fn check_road<R: Roads>(
     roads: &R,
     test: bool,
@@ -16,6 +17,12 @@ pub fn check_road<R: Roads>(
 ) -> Result<(), Fault>
     ensures { reported result ≡ or_else (unless (numbered (R.Roads.meaning roads.now).roads road) 6 road part) (unless test (number refusal) road part) }
 {
-    Fault::unless(roads.has_road(road), Refusal::Road, road as usize, part)?;
-    Fault::unless(test, refusal, road as usize, part)
+    let found = if !roads.has_road(road) {
+        Refusal::Road
+    } else if !test {
+        refusal
+    } else {
+        return Ok(());
+    };
+    Err(Fault::new(found, road as usize, part))
 }

@@ -1,17 +1,18 @@
 -- Exits that are noted arc by arc are the last exits of a walk.
 use Rattle.std.proofs.Common.{◌≡◌, ℕ, zero, suc, ◌+◌, ◌<◌, true, false, cond, eqb, List, [], ◌∷◌, ◌++◌, length, get_or, take, replicate, Some, None, Option, sym, refl, ap, ◌∙◌}
 use Rattle.std.specs.List.{slice_get}
-use Rattle.std.specs.Option.{option_flatten}
+use Rattle.std.specs.Option.{option_map}
 use Rattle.std.proofs.lemmas.List.{take_more}
 use Rattle.walks.specs.declared.arcs.Arc.{Arc}
 use Rattle.walks.specs.Cutting.{last_exit}
-use Rattle.loop_cutting.specs.Exits.{noted}
+use Rattle.loop_cutting.specs.declared.exits.Exit.{Exit}
+use Rattle.loop_cutting.specs.Exits.{noted, arc_out}
 
--- a list of nothing has nothing at any place
-pub nothing_at : {X : Type 0} (n u : ℕ) → option_flatten (slice_get (replicate {A = Option X} n None) u) ≡ None
-nothing_at zero u = refl
-nothing_at (suc n) zero = refl
-nothing_at (suc n) (suc u) = nothing_at n u
+-- where no arc left any place, none left v
+pub no_arc_out : (n u v : ℕ) (x : Exit) → x.head ≡ None → arc_out v (slice_get (replicate n x) u) ≡ None
+no_arc_out zero u v x e = refl
+no_arc_out (suc n) zero v x e = ap (option_map (λ h. record { tail = v; head = h; road = x.road })) e
+no_arc_out (suc n) (suc u) v x e = no_arc_out n u v x e
 
 -- the last exit, where an arc comes before
 abbrev before : Arc → ℕ → Option Arc → Option Arc

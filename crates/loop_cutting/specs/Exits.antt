@@ -1,12 +1,18 @@
 -- For each place the arc that left it last.
 use Rattle.std.specs.Prelude.{ℕ, Bool, cond, ◌&&◌, List, length, Some, None, Option, ◌==◌, nat_le, nat_lt, slice_get}
 use Rattle.std.specs.List.{list_all}
-use Rattle.std.specs.Option.{option_map, option_flatten}
+use Rattle.std.specs.Option.{option_map}
 use Rattle.walks.specs.declared.arcs.Arc.{Arc}
+use Rattle.loop_cutting.specs.declared.exits.Exit.{Exit}
 use Rattle.loop_cutting.specs.declared.exits.Exits.{Exits}
 
+-- the arc that left u, by what is kept there
+abbrev pub arc_out : ℕ → Option Exit → Option Arc
+arc_out u None = None
+arc_out u (Some x) = option_map (λ h. record { tail = u; head = h; road = x.road }) x.head
+
 abbrev pub exit_at : Exits → ℕ → Option Arc
-exit_at e u = option_map (λ x. record { tail = u; head = x.head; road = x.road }) (option_flatten (slice_get e.exits u))
+exit_at e u = arc_out u (slice_get e.exits u)
 
 -- an arc between places that there is room for
 abbrev pub fits : Arc → Bool

@@ -1,21 +1,21 @@
-ghost use Rattle.std.specs.Prelude.{◌≡◌, ℕ, ◌++◌, map, length, drop, is_some, if◌then◌else◌, None, nat_eq, slice_get};
-ghost use Rattle.std.specs.Option.{option_flatten};
+ghost use Rattle.std.specs.Prelude.{◌≡◌, ℕ, ◌++◌, map, length, drop, is_some, if◌then◌else◌, None, nat_eq};
 ghost use Rattle.walks.specs.Cutting.{follow};
 ghost use Rattle.loop_cutting.specs.Exits.{exit_at, fits, noted, room_for};
 
 use crate::following::Following;
+use roads::JunctionSlot;
 use walks::Arc;
 
 /// For each of 2,048 places the arc that left it last.
 #[derive(Drop)]
 pub struct Exits {
-    exits: [Option<Exit>; 2048],
+    exits: [Exit; 2048],
 }
 
-// Where the arc leads that left a place, and by which road.
+// Where the arc leads that left a place, if one did, and by which road.
 #[derive(Clone, Copy)]
 struct Exit {
-    head: u32,
+    head: JunctionSlot,
     road: u32,
 }
 
@@ -23,7 +23,9 @@ impl Exits {
     pub fn new() -> Exits
         ensures { (u : ℕ) → exit_at result u ≡ None }
     {
-        Exits { exits: no_exits() }
+        Exits {
+            exits: [no_exit(); 2048],
+        }
     }
 
     /// No place has been left.
@@ -42,10 +44,10 @@ impl Exits {
             return None;
         }
         let u = arc.tail as usize;
-        self.exits[u] = Some(Exit {
-            head: arc.head,
+        self.exits[u] = Exit {
+            head: JunctionSlot::with(arc.head as u16),
             road: arc.road,
-        });
+        };
         Some(())
     }
 
@@ -67,10 +69,11 @@ impl Exits {
     fn exit(&self, place: u32) -> Option<Arc>
         ensures { result ≡ exit_at self.now place }
     {
-        let exit = self.exits.get(place as usize).copied().flatten()?;
+        let exit = self.exits.get(place as usize)?;
+        let head = exit.head.junction()?;
         Some(Arc {
             tail: place,
-            head: exit.head,
+            head: u32::from(head),
             road: exit.road,
         })
     }
@@ -86,9 +89,12 @@ impl Exits {
     }
 }
 
-// No exit from any place.
-fn no_exits() -> [Option<Exit>; 2048]
-    ensures { (u : ℕ) → option_flatten (slice_get result u) ≡ None }
+// No arc left a place.
+fn no_exit() -> Exit
+    ensures { result.head ≡ None }
 {
-    [None; 2048]
+    Exit {
+        head: JunctionSlot::empty(),
+        road: 0,
+    }
 }

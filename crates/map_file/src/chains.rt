@@ -1,5 +1,5 @@
 //! The chains of roads, followed junction by junction.
-ghost use Rattle.std.specs.Prelude.{◌≡◌, ◌+◌, ◌<◌, ◌≤◌, [], None, Some, IfOk, OnOk, is_ok, is_none, position, slice_index_or, slice_set, if◌then◌else◌};
+ghost use Rattle.std.specs.Prelude.{◌≡◌, ◌+◌, ◌<◌, ◌≤◌, [], None, Some, OnOk, is_ok, is_none, position, replicate, slice_index_or, slice_set, if◌then◌else◌};
 ghost use Rattle.roads.specs.declared.fault.Part.TheVariants.{Map};
 ghost use Rattle.roads.specs.Faults.{reported, unless, first_below};
 ghost use Rattle.map_file.specs.Layout.{junction_count, road_count, first_at, next_at};
@@ -8,30 +8,29 @@ ghost use Rattle.map_file.specs.Chains.{again, met, met_again, unmet_fault, Tail
 use super::fields::read_field;
 use super::header::Records;
 use super::records::{read_junction, read_road};
+use super::tails::TailTable;
+use roads::JunctionSlot;
 use roads::fault::{Fault, Part, Refusal};
-
-/// The tail of each road at its number, where one is known. Entry 0 is no road's.
-// Kept: that a table is that of some bytes is the promise of the checks; table and bytes are one struct as `ChainedMap`.
-pub type TailTable = [Option<u16>; 4097];
 
 // Gives a road its tail; refused where it has one.
 fn give_tail(tails: &mut TailTable, road: u16, tail: u16) -> Result<(), Fault>
-    requires { road < 4097 }
+    requires road { road < 4097 }
+    requires tail { tail < 65535 }
     ensures told { reported result ≡ unless (is_none (slice_index_or tails.old road None)) 4 road Map }
     ensures given { tails.new ≡ (if is_ok result then slice_set tails.old road (Some tail) else tails.old) }
 {
-    if tails[usize::from(road)].is_some() {
+    if tails[usize::from(road)].junction().is_some() {
         return Err(Fault::new(Refusal::Chain, usize::from(road), Part::Map));
     }
-    tails[usize::from(road)] = Some(tail);
+    tails[usize::from(road)] = JunctionSlot::with(tail);
     Ok(())
 }
 
 // Where the first road without a tail stands in a list.
-fn first_unmet(tails: &[Option<u16>]) -> Option<usize>
+fn first_unmet(tails: &[JunctionSlot]) -> Option<usize>
     ensures { result ≡ position is_none tails.now }
 {
-    tails.iter().position(|tail| tail.is_none())
+    tails.iter().position(|tail| tail.junction().is_none())
 }
 
 impl Records<'_> {
@@ -70,17 +69,17 @@ impl Records<'_> {
         Ok(())
     }
 
-    // The tail of each road; refused at the first road that is met again.
+    // Gives each road its tail, where none has one yet; refused at the first road that is met again.
     #[tactic(auto, using(crate::proofs::Walks::fault_later))]
-    fn find_tails(&self) -> Result<TailTable, Fault>
+    fn find_tails(&self, tails: &mut TailTable) -> Result<(), Fault>
+        requires { tails.old ≡ replicate 4097 None }
         ensures told { reported result ≡ met_again (again [] (met self.now.bytes.now (junction_count self.now.bytes.now))) }
-        ensures tails { IfOk result (Tails self.now.bytes.now) }
+        ensures tails { OnOk result (Tails self.now.bytes.now tails.new) }
     {
-        let mut tails = [None; 4097];
         for junction in 0..read_field(self.bytes, 0) {
-            self.follow_chain(&mut tails, junction)?;
+            self.follow_chain(tails, junction)?;
         }
-        Ok(tails)
+        Ok(())
     }
 
     // Refused at the lowest road that has no tail.
@@ -89,20 +88,21 @@ impl Records<'_> {
         ensures { reported result ≡ first_below (unmet_fault (met self.now.bytes.now (junction_count self.now.bytes.now))) (road_count self.now.bytes.now) }
     {
         let m = usize::from(read_field(self.bytes, 2));
-        match first_unmet(&tails[1..m + 1]) {
+        let all = &tails[..];
+        match first_unmet(&all[1..m + 1]) {
             Some(i) => Err(Fault::new(Refusal::Chain, i + 1, Part::Map)),
             None => Ok(()),
         }
     }
 
-    // Every road is on one chain, once: the tail of each.
+    // Every road is on one chain, once: the table, blank before, then has the tail of each.
     #[tactic(auto, unfolding(crate::specs::Chains::chain_fault))]
-    pub(crate) fn check_chains(&self) -> Result<TailTable, Fault>
+    pub(crate) fn check_chains(&self, tails: &mut TailTable) -> Result<(), Fault>
+        requires { tails.old ≡ replicate 4097 None }
         ensures told { reported result ≡ chain_fault self.now.bytes.now }
-        ensures tails { IfOk result (Tails self.now.bytes.now) }
+        ensures tails { OnOk result (Tails self.now.bytes.now tails.new) }
     {
-        let tails = self.find_tails()?;
-        self.check_met(&tails)?;
-        Ok(tails)
+        self.find_tails(tails)?;
+        self.check_met(tails)
     }
 }

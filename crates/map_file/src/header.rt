@@ -70,13 +70,14 @@ impl<'a> Header<'a> {
     }
 
     // Kept: that there is such a junction is a bound on its number; a type for it would be unwrapped in each function.
-    fn check_junction(&self, junction: u32) -> Result<(), Fault>
-        requires { junction < junction_count self.now.bytes.now }
+    fn check_junction(&self, junction: u32, codes: u32) -> Result<(), Fault>
+        requires known { junction < junction_count self.now.bytes.now }
+        requires codes { codes ≡ 16 ^ level_count self.now.bytes.now }
         ensures { reported result ≡ junction_fault self.now.bytes.now junction }
     {
         let at = 6 + 4 * junction;
         let record = junction_at(self.bytes, at);
-        if u32::from(record.code) >= self.code_count() {
+        if u32::from(record.code) >= codes {
             return Err(bad_field(at));
         }
         if u32::from(record.first) > self.roads() {
@@ -108,8 +109,9 @@ impl<'a> Header<'a> {
     fn check_junctions(&self) -> Result<(), Fault>
         ensures { reported result ≡ first_below (junction_fault self.now.bytes.now) (junction_count self.now.bytes.now) }
     {
+        let codes = self.code_count();
         for junction in 0..self.junctions() {
-            self.check_junction(junction)?;
+            self.check_junction(junction, codes)?;
         }
         Ok(())
     }

@@ -9,12 +9,14 @@ mod chains;
 mod fields;
 mod header;
 mod records;
+mod tails;
 
-pub use chains::TailTable;
 pub use fields::{junction_count, read_byte, read_field, road_count};
 use header::check_head;
 pub use records::{JunctionRecord, RoadRecord, read_junction, read_road, road_place};
 use roads::fault::Fault;
+pub use tails::TailTable;
+use tails::blank;
 
 /// Checks a map file, and finds the tail of each of its roads: the junction whose chain has it.
 #[tactic(auto, unfolding(crate::specs::Chains::open_fault))]
@@ -22,5 +24,8 @@ pub fn check_map(bytes: &[u8]) -> Result<TailTable, Fault>
     ensures told { reported result ≡ open_fault bytes.now }
     ensures tails { IfOk result (Tails bytes.now) }
 {
-    check_head(bytes)?.check_fields()?.check_chains()
+    let records = check_head(bytes)?.check_fields()?;
+    let mut tails = blank();
+    records.check_chains(&mut tails)?;
+    Ok(tails)
 }

@@ -27,6 +27,7 @@ pub struct RoadRecord {
 }
 
 // The record of a junction that begins at an offset.
+#[inline(always)]
 pub(crate) fn junction_at(bytes: &[u8], at: u32) -> JunctionRecord
     requires { at < 2000000 }
     ensures { result ≡ record { code = field bytes.now at; first = field bytes.now (at + 2) } }
@@ -38,6 +39,7 @@ pub(crate) fn junction_at(bytes: &[u8], at: u32) -> JunctionRecord
 }
 
 // The record of a road that begins at an offset.
+#[inline(always)]
 pub(crate) fn road_at(bytes: &[u8], at: u32) -> RoadRecord
     requires { at < 2000000 }
     ensures { result ≡ record { head = field bytes.now at; next = field bytes.now (at + 2); seconds = field bytes.now (at + 4); metres = field bytes.now (at + 6); limit = field bytes.now (at + 8); mark = field bytes.now (at + 10) } }
@@ -53,6 +55,7 @@ pub(crate) fn road_at(bytes: &[u8], at: u32) -> RoadRecord
 }
 
 /// The record of a junction; `None` where there is no such junction.
+#[inline(always)]
 pub fn read_junction(bytes: &[u8], junction: u32) -> Option<JunctionRecord>
     ensures { result ≡ junction_of bytes.now junction }
 {
@@ -63,6 +66,7 @@ pub fn read_junction(bytes: &[u8], junction: u32) -> Option<JunctionRecord>
 }
 
 /// Where the record of a road begins; `None` where there is no such road.
+#[inline(always)]
 pub fn road_place(bytes: &[u8], road: u32) -> Option<u32>
     ensures { result ≡ place_of bytes.now road }
 {
@@ -73,6 +77,7 @@ pub fn road_place(bytes: &[u8], road: u32) -> Option<u32>
 }
 
 /// The record of a road; `None` where there is no such road.
+#[inline(always)]
 pub fn read_road(bytes: &[u8], road: u32) -> Option<RoadRecord>
     ensures { result ≡ road_of bytes.now road }
 {

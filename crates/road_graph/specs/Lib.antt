@@ -1,2 +1,3 @@
 pub mod Surveys
+pub mod Cursors
 pub mod Passing

@@ -1,15 +1,11 @@
 -- The roads that pass a test, and their arcs with what they cost.
-use Rattle.std.specs.Prelude.{ℕ, Bool, cond, List, map, Some, None, Option}
+use Rattle.std.specs.Prelude.{ℕ, Bool, List, map}
 use Rattle.charge.specs.Scales.{Scale}
 use Rattle.roads.specs.declared.facts.Facts.{Facts}
 use Rattle.roads.specs.Networks.{Network}
 use Rattle.walks.specs.declared.arcs.Arc.{Arc}
 use Rattle.walks.specs.declared.arcs.ChargedArc.{ChargedArc}
 use Rattle.cells.specs.RoadGraphs.{arcs_of, road_charge}
-
--- the facts of road r where they pass a test
-abbrev pub passing : Network → (Facts → Bool) → ℕ → Option Facts
-passing w test r = elim (w.facts r) [ None ↦ None | Some f ↦ cond (test f) (Some f) None ]
 
 -- an arc with what its road costs by a tariff
 abbrev pub charged_arc : {C : Type 0} → Scale C → Network → (ℕ → Facts → C) → Arc → ChargedArc C

@@ -1,9 +1,9 @@
 -- A leaving list is read from its front, each road by the one before.
-use Rattle.std.proofs.Common.{◌≡◌, ℕ, Bool, true, false, cond, eqb, List, [], ◌∷◌, is_some, Some, None, Option, sym, refl, ap, ◌∙◌, ⊎_elim}
+use Rattle.std.proofs.Common.{◌≡◌, ℕ, Bool, true, false, cond, ◌||◌, ◌==◌, eqb, List, [], ◌∷◌, is_some, Some, None, Option, sym, refl, ap, ◌∙◌, ⊎_elim}
 use Rattle.std.proofs.lemmas.Bool.{eqb-true, eqb-false, eq-eqb, ne_eqb, cond-true, cond-false, true≢false, cases_Bool}
 use Rattle.roads.specs.declared.facts.Facts.{Facts}
 use Rattle.roads.specs.RoadLists.{has, distinct, front, past}
-use Rattle.roads.specs.Networks.{Network, WellFormed, leaves, numbered, next_leaving, roads_from}
+use Rattle.roads.specs.Networks.{Network, WellFormed, leaves, numbered, next_leaving, roads_from, stands}
 
 -- a list from r on
 abbrev pub onward : ℕ → List ℕ → List ℕ
@@ -93,6 +93,10 @@ module _ (w : Network) (ok : WellFormed w) (j : ℕ) where
       let here : has y (w.leaving j) ≡ true = s y (cond-true (eqb y y) true (has y ys) (eq-eqb y y refl)) in
       there y (w.facts y) (sym (ok.listed j y) ∙ here) ∙ (sym (onward_has y (w.leaving j) here) ∙ e)
 
+or_true : (u v : Bool) → v ≡ true → (u || v) ≡ true
+or_true true v e = refl
+or_true false v e = e
+
 module _ (w : Network) (ok : WellFormed w) where
   -- from the first road that leaves j on there are all of them
   pub from_first : (j : ℕ) → roads_from w (front (w.leaving j)) ≡ w.leaving j
@@ -119,3 +123,29 @@ module _ (w : Network) (ok : WellFormed w) where
     by : (o : Option Facts) → w.facts r ≡ o → is_some o ≡ true → roads_from w r ≡ r ∷ roads_from w n
     by None t s = absurd (true≢false (sym s))
     by (Some f) t s = rw e (from_step r f t)
+
+  -- the front of some roads that leave a junction is a road, or 0
+  front_stands : (j : ℕ) (ys : List ℕ) → ((y : ℕ) → has y ys ≡ true → has y (w.leaving j) ≡ true) → stands w (front ys) ≡ true
+  front_stands j [] s = refl
+  front_stands j (y ∷ ys) s =
+      let here : has y (w.leaving j) ≡ true = s y (cond-true (eqb y y) true (has y ys) (eq-eqb y y refl)) in
+      let known : numbered w.roads y ≡ true = sym (ok.known y) ∙ leaves_known j (w.facts y) (sym (ok.listed j y) ∙ here) in
+      or_true (y == 0) (numbered w.roads y) known
+
+  -- the first road that leaves a junction
+  pub first_stands : (j n : ℕ) → n ≡ front (w.leaving j) → stands w n ≡ true
+  first_stands j n e = rw e (front_stands j (w.leaving j) (λ y h. h))
+
+  -- and the one after a road
+  pub next_stands : (r n : ℕ) → n ≡ next_leaving w r → stands w n ≡ true
+  next_stands r n e = rw e (by (w.facts r)) where
+    by : (o : Option Facts) → stands w (elim o [ None ↦ 0 | Some f ↦ front (past r (w.leaving f.tail)) ]) ≡ true
+    by None = refl
+    by (Some f) = front_stands f.tail (past r (w.leaving f.tail)) (past_in r (w.leaving f.tail))
+
+  -- what is no 0 is a road
+  pub stands_road : (r : ℕ) → stands w r ≡ true → (r ≡ 0 → ⊥) → numbered w.roads r ≡ true
+  stands_road r h n = by (r == 0) (numbered w.roads r) (ne_eqb r 0 n) h where
+    by : (u v : Bool) → u ≡ false → (u || v) ≡ true → v ≡ true
+    by true v e k = absurd (true≢false e)
+    by false v e k = k

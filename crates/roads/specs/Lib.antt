@@ -1,3 +1,4 @@
+pub mod Slots
 pub mod Faults
 pub mod Words
 pub mod RoadLists

@@ -1,5 +1,5 @@
 -- What roads mean.
-use Rattle.std.specs.Prelude.{◌≡◌, ℕ, ◌^◌, ◌<◌, Bool, true, false, ◌&&◌, List, [], ◌∷◌, is_some, Some, None, Option, ◌==◌, nat_le}
+use Rattle.std.specs.Prelude.{◌≡◌, ℕ, ◌^◌, ◌<◌, Bool, true, false, ◌&&◌, ◌||◌, List, [], ◌∷◌, is_some, Some, None, Option, ◌==◌, nat_le}
 use Rattle.roads.specs.declared.facts.Facts.{Facts}
 use Rattle.roads.specs.RoadLists.{has, distinct, front, past}
 
@@ -31,6 +31,10 @@ next_leaving w r = elim (w.facts r) [ None ↦ 0 | Some f ↦ front (past r (w.l
 -- the roads from r on that leave the tail of r; none where r is no road
 unfoldable pub roads_from : Network → ℕ → List ℕ
 roads_from w r = elim (w.facts r) [ None ↦ [] | Some f ↦ r ∷ past r (w.leaving f.tail) ]
+
+-- whether r is a road's number, or the 0 that ends a list
+abbrev pub stands : Network → ℕ → Bool
+stands w r = r == 0 || numbered w.roads r
 
 pub record WellFormed (w : Network) : Type 0 where
   -- the counts have 32 bits

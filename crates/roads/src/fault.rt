@@ -59,6 +59,7 @@ impl From<Refusal> for u8 {
 }
 
 impl Fault {
+    #[inline(always)]
     pub fn new(refusal: Refusal, place: usize, part: Part) -> Fault
         ensures { result ≡ record { refusal = refusal; place = place; part = part } }
     {
@@ -70,6 +71,7 @@ impl Fault {
     }
 
     /// A check: refused unless the test holds.
+    #[inline(always)]
     pub fn unless(test: bool, refusal: Refusal, place: usize, part: Part) -> Result<(), Fault>
         ensures { reported result ≡ unless test (number refusal) place part }
     {

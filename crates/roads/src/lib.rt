@@ -8,9 +8,11 @@ ghost use Rattle.roads.specs.Networks.{Network, WellFormed, numbered, is_open, n
 pub mod facts;
 pub mod fault;
 mod roads_from;
+mod slot;
 
 use facts::Facts;
 pub use roads_from::RoadsFrom;
+pub use slot::JunctionSlot;
 use std::alloc::{AllocError, Global};
 
 /// Junctions from 0 on and roads from 1 on, read by number.
@@ -55,6 +57,7 @@ pub trait Roads {
 }
 
 /// Whether there is a road of this number among so many.
+#[inline(always)]
 pub fn is_numbered(roads: u32, road: u32) -> bool
     ensures { result ≡ numbered roads road }
 {

@@ -1,3 +1,4 @@
 pub mod Members
 pub mod Proper
 pub mod Giving
+pub mod Coming

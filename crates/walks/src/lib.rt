@@ -7,9 +7,11 @@ ghost use Rattle.walks.specs.Digraphs.{Digraph};
 ghost use Rattle.walks.specs.Arcs.{Gives};
 
 mod arcs;
+mod cursors;
 
 pub use arcs::{Arc, ChargedArc};
 use charge::Charge;
+pub use cursors::{ByCursor, CursorArcs, CursorGraph};
 
 /// A graph that can be searched.
 pub trait Graph {

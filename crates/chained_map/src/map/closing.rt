@@ -8,7 +8,7 @@ ghost use Rattle.chained_map.specs.Closed.{marked};
 ghost use Rattle.chained_map.specs.Coherence.{map_coherent};
 
 use super::ChainedMap;
-use closings::{Closable, check_road};
+use closings::Closable;
 use map_file::road_count;
 use roads::Roads;
 use roads::fault::{Fault, Part, Refusal};
@@ -36,6 +36,7 @@ impl Closable for ChainedMap {
         self.is_marked(road)
     }
 
+    // Kept: one chain that makes one fault, as in a layer; reopening has another test and another word.
     /// Writes the road's mark; no other byte changes. There is always room.
     #[tactic(auto, using(crate::proofs::Shut::close_checks))]
     fn close(&mut self, road: u32) -> Result<(), Fault>
@@ -43,15 +44,15 @@ impl Closable for ChainedMap {
         ensures moved { Moved true road result (network (file self.old)) (marked (file self.old)) (network (file self.new)) (marked (file self.new)) }
         ensures bytes { file self.new ≡ (if is_ok result then with_mark 1 road (file self.old) else file self.old) }
     {
-        check_road(
-            self,
-            !self.is_marked(road),
-            Refusal::Already,
-            road,
-            Part::Map,
-        )?;
-        self.write_mark(road, true);
-        Ok(())
+        let refusal = if !self.has_road(road) {
+            Refusal::Road
+        } else if self.is_marked(road) {
+            Refusal::Already
+        } else {
+            self.write_mark(road, true);
+            return Ok(());
+        };
+        Err(Fault::new(refusal, road as usize, Part::Map))
     }
 
     /// Clears the road's mark; no other byte changes.
@@ -60,14 +61,14 @@ impl Closable for ChainedMap {
         ensures moved { Moved false road result (network (file self.old)) (marked (file self.old)) (network (file self.new)) (marked (file self.new)) }
         ensures bytes { file self.new ≡ (if is_ok result then with_mark 0 road (file self.old) else file self.old) }
     {
-        check_road(
-            self,
-            self.is_marked(road),
-            Refusal::NotClosed,
-            road,
-            Part::Map,
-        )?;
-        self.write_mark(road, false);
-        Ok(())
+        let refusal = if !self.has_road(road) {
+            Refusal::Road
+        } else if !self.is_marked(road) {
+            Refusal::NotClosed
+        } else {
+            self.write_mark(road, false);
+            return Ok(());
+        };
+        Err(Fault::new(refusal, road as usize, Part::Map))
     }
 }

@@ -37,6 +37,7 @@ impl ChainedMap {
     }
 
     // The record of a road; `None` where there is no such road.
+    #[inline(always)]
     fn road_record(&self, road: u32) -> Option<RoadRecord>
         ensures { result ≡ road_of (file self.now) road }
     {
@@ -44,6 +45,7 @@ impl ChainedMap {
     }
 
     // Whether a road is marked as closed.
+    #[inline(always)]
     pub(crate) fn is_marked(&self, road: u32) -> bool
         ensures { result ≡ (marked (file self.now)).own road }
     {
@@ -82,7 +84,7 @@ impl Roads for ChainedMap {
     #[tactic(auto, using(crate::proofs::Readings::read_known, crate::specs::Chained::tail_known, crate::specs::Chained::sound_head, map_file::proofs::Passed::few_roads))]
     fn facts(&self, road: u32) -> Option<Facts> {
         let record = self.road_record(road)?;
-        let tail = self.tails[road as usize].unwrap();
+        let tail = self.tails[road as usize].junction().unwrap();
         Some(facts_of(record, tail))
     }
 

@@ -9,17 +9,33 @@ ghost use Rattle.closings.specs.Coherence.{layered_coherent};
 use super::ClosingsLayer;
 use crate::table::CAPACITY;
 use crate::{Closable, check_road};
-use roads::Roads;
 use roads::fault::{Fault, Part, Refusal};
+use roads::{Roads, is_numbered};
 
 impl<B: Roads> ClosingsLayer<B> {
+    // Whether a road is closed by this layer. What is no road costs no look at the table.
+    fn closes(&self, road: u32) -> bool
+        ensures { result ≡ (layered (B.Roads.meaning self.now.below) self.now.table).own road }
+    {
+        self.below.has_road(road) && self.table.contains(road)
+    }
+
     // Refuses a road that cannot be closed.
+    // Kept: one chain that makes one fault; faults handed on by `?` from check to check cost more than all the rest.
     fn check_close(&self, road: u32) -> Result<(), Fault>
         ensures { let w = B.Roads.meaning self.now.below in reported result ≡ close_fault w.roads (layered w self.now.table) road }
     {
-        check_road(self, !self.owns(road), Refusal::Already, road, Part::Layer)?;
-        let room = self.closed_count() < self.capacity();
-        Fault::unless(room, Refusal::Full, road as usize, Part::Layer)
+        let m = self.below.roads();
+        let refusal = if !is_numbered(m, road) {
+            Refusal::Road
+        } else if self.table.contains(road) {
+            Refusal::Already
+        } else if self.table.count_roads(m) >= CAPACITY as u32 {
+            Refusal::Full
+        } else {
+            return Ok(());
+        };
+        Err(Fault::new(refusal, road as usize, Part::Layer))
     }
 
     // Takes a road into the table.
@@ -71,7 +87,13 @@ impl<B: Roads> Closable for ClosingsLayer<B> {
     }
 
     fn reopen(&mut self, road: u32) -> Result<(), Fault> {
-        check_road(self, self.owns(road), Refusal::NotClosed, road, Part::Layer)?;
+        check_road(
+            self,
+            self.closes(road),
+            Refusal::NotClosed,
+            road,
+            Part::Layer,
+        )?;
         self.remove(road);
         Ok(())
     }

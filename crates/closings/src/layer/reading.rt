@@ -37,7 +37,7 @@ impl<B: Roads> ClosingsLayer<B> {
         below
     }
 
-    // Whether a road is closed by this layer.
+    // Whether a road is closed by this layer. `facts` asks it of roads, few of which are in the table.
     pub(super) fn owns(&self, road: u32) -> bool
         ensures { result ≡ (has road self.now.table && numbered (B.Roads.meaning self.now.below).roads road) }
     {

@@ -64,11 +64,18 @@ impl Table {
 }
 
 // How many of some numbers are roads, of which there are m.
+// Kept: `filter` and `count` take twice the time, and each closing counts.
 fn count_numbered(numbers: &[u32], m: u32) -> usize
     ensures count { result ≡ count_by (numbered m) numbers.now }
     ensures few { result ≤ length numbers.now }
 {
-    numbers.iter().filter(|x| is_numbered(m, **x)).count()
+    let mut count = 0;
+    for x in numbers {
+        if is_numbered(m, *x) {
+            count += 1;
+        }
+    }
+    count
 }
 
 fn is_other_road(m: u32, road: u32, x: u32) -> bool
