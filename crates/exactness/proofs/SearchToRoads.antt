@@ -1,10 +1,9 @@
 -- Every walk of the search graph opens into an open walk of the same total, and so the least totals agree.
-use Rattle.std.proofs.Common.{◌≡◌, ℕ, true, ◌↔◌, List, [], ◌∷◌, ◌++◌, is_some, Some, None, Option, unwrap_or, sym, refl, ap, ◌∙◌, ap₂, ⊎_elim}
+use Rattle.std.proofs.Common.{◌≡◌, ℕ, true, List, [], ◌∷◌, ◌++◌, is_some, Some, None, Option, unwrap_or, sym, refl, ap, ◌∙◌, ap₂, ⊎_elim}
 use Rattle.std.proofs.lemmas.Bool.{and_parts, both_ways}
 use Rattle.roads.specs.declared.facts.Facts.{Facts}
 use Rattle.roads.specs.Networks.{Network, WellFormed}
-use Rattle.charge.specs.Scales.{Scale}
-use Rattle.charge.proofs.Laws.{Lawful}
+use Rattle.charge.specs.Scales.{Scale, Ordered}
 use Rattle.walks.specs.declared.arcs.Arc.{Arc}
 use Rattle.walks.specs.Digraphs.{Digraph, Walk, cost}
 use Rattle.walks.specs.Least.{Least}
@@ -12,12 +11,13 @@ use Rattle.cells.specs.Cells.{Survey, cell}
 use Rattle.cells.specs.RoadGraphs.{open_roads, stays_inside, inside}
 use Rattle.cells.specs.Overlay.{Sheet, Right, query_level, overlay, overlay_charge}
 use Rattle.exactness.proofs.QueryLevels.{level_most}
-use Rattle.exactness.proofs.Costs.{walk_append, cost_append, leasts_agree}
+use Rattle.exactness.specs.Exact.{Exact, Opens, OverlaySound}
+use Rattle.exactness.specs.Steps.{CostsJoin, Searched, OverlayTails, OverlayHeads}
+use Rattle.exactness.proofs.Costs.{walk_append, leasts_agree}
 use Rattle.exactness.proofs.RoadArcs.{Road, road_in, in_road}
 use Rattle.exactness.proofs.SearchArcs.{Shortcut, is_open, serving, road_costs}
-use Rattle.exactness.proofs.RoadsToSearch.{roads_to_search}
 
-module _ {C : Type 0} {s : Scale C} (laws : Lawful s) {w : Network} (ok : WellFormed w) (price : ℕ → Facts → C) (c : Survey) where
+module _ {C : Type 0} (s : Scale C) (joins : CostsJoin s) {w : Network} (ok : WellFormed w) (price : ℕ → Facts → C) (c : Survey) where
   abbrev roads : Digraph C
   roads = open_roads s w price
 
@@ -48,6 +48,7 @@ module _ {C : Type 0} {s : Scale C} (laws : Lawful s) {w : Network} (ok : WellFo
     )
 
     over_shortcut : (a b : ℕ) (r : Arc) (p : List Arc) → Opened r.head p b → Shortcut w c sheet (query_level c start goal a) a r → Opened a (r ∷ p) b
+    unfolding CostsJoin
     over_shortcut a b r p rest cut =
         let l = query_level c start goal a in
         let x = r.head in
@@ -55,7 +56,7 @@ module _ {C : Type 0} {s : Scale C} (laws : Lawful s) {w : Network} (ok : WellFo
         let charge : overlay_charge s w price c sheet start goal r ≡ unwrap_or (sheet l a x) s.neutral = ap (overlay_charge s w price c sheet start goal) cut.is in (
           way.0 ++ rest.0,
           walk_append roads a x b way.0 rest.0 way.1 rest.1,
-          cost_append laws roads way.0 rest.0 ∙ ap₂ s.joined (way.2 ∙ sym charge) rest.2,
+          joins roads way.0 rest.0 ∙ ap₂ s.joined (way.2 ∙ sym charge) rest.2,
         )
 
     pub search_to_roads : (a b : ℕ) (p : List Arc) → Walk graph a p b → Opened a p b
@@ -64,7 +65,20 @@ module _ {C : Type 0} {s : Scale C} (laws : Lawful s) {w : Network} (ok : WellFo
         let rest = search_to_roads r.head b p k in
         ⊎_elim (over_road a b r p rest) (over_shortcut a b r p rest) (serving ok c sheet (query_level c start goal a) a r i)
 
-    pub search_exact : (o : Option C) → Least s graph start goal o ↔ Least s roads start goal o
-    search_exact =
-        leasts_agree laws roads graph (λ p. Walk roads start p goal) (λ p. Walk graph start p goal)
-        (search_to_roads start goal) (roads_to_search laws ok price c sheet right start goal)
+module _ {C : Type 0} (s : Scale C) where
+  pub opens : CostsJoin s → Opens s
+  unfolding Opens
+  opens joins w ok price c sheet right start goal a b p k = search_to_roads s joins ok price c sheet right start goal a b p k
+
+  pub exact : Ordered s → Opens s → Searched s → Exact s
+  unfolding Opens Searched Exact
+  exact order back forth w ok price c sheet right start goal =
+      let roads = open_roads s w price in
+      let graph = overlay s w price c sheet start goal in
+      leasts_agree order roads graph (λ p. Walk roads start p goal) (λ p. Walk graph start p goal)
+      (back w ok price c sheet right start goal start goal) (forth w ok price c sheet right start goal)
+
+  pub sound : OverlayTails s → OverlayHeads s → OverlaySound s
+  unfolding OverlayTails OverlayHeads OverlaySound
+  sound tails heads w ok price c sheet start goal =
+      record { tails = tails w ok price c sheet start goal; heads = heads w ok price c sheet start goal }

@@ -11,16 +11,16 @@ use Rattle.cells.specs.RoadGraphs.{open_roads}
 use Rattle.cells.specs.Overlay.{Sheet, Right, overlay}
 
 -- the least total over the search graph is the least total over all open walks, and one exists exactly when the other does
-abbrev pub Exact : {C : Type 0} → Scale C → Type 0
+unfoldable pub Exact : {C : Type 0} → Scale C → Type 0
 Exact {C} s = (w : Network) → WellFormed w → (price : ℕ → Facts → C) (c : Survey) (sheet : Sheet C) → Right s w price c sheet →
     (start goal : ℕ) (o : Option C) → Least s (overlay s w price c sheet start goal) start goal o ↔ Least s (open_roads s w price) start goal o
 
 -- every walk of the search graph opens into an open walk of the same total
-abbrev pub Opens : {C : Type 0} → Scale C → Type 0
+unfoldable pub Opens : {C : Type 0} → Scale C → Type 0
 Opens {C} s = (w : Network) → WellFormed w → (price : ℕ → Facts → C) (c : Survey) (sheet : Sheet C) → Right s w price c sheet →
     (start goal : ℕ) (a b : ℕ) (p : List Arc) → Walk (overlay s w price c sheet start goal) a p b →
     (q : List Arc) × Walk (open_roads s w price) a q b × (cost s (open_roads s w price) q ≡ cost s (overlay s w price c sheet start goal) p)
 
 -- on any sheet whatever, the search graph is a graph
-abbrev pub OverlaySound : {C : Type 0} → Scale C → Type 0
+unfoldable pub OverlaySound : {C : Type 0} → Scale C → Type 0
 OverlaySound {C} s = (w : Network) → WellFormed w → (price : ℕ → Facts → C) (c : Survey) (sheet : Sheet C) (start goal : ℕ) → Sound (overlay s w price c sheet start goal)

@@ -8,6 +8,8 @@ use Rattle.walks.specs.Digraphs.{Digraph, In, cost}
 use Rattle.walks.specs.Least.{LeastOf}
 use Rattle.walks.specs.Cutting.{Sub, done, skip, keep}
 use Rattle.walks.specs.Computing.{cheaper, cheapest}
+use Rattle.least_walks.specs.Theorems.{OneLeast}
+use Rattle.least_walks.specs.Steps.{EquallyDear}
 
 module _ {C : Type 0} {s : Scale C} (order : Ordered s) where
   module _ (g : Digraph C) where
@@ -16,13 +18,6 @@ module _ {C : Type 0} {s : Scale C} (order : Ordered s) where
     sub_cost mono grow done = leq_refl order s.neutral
     sub_cost mono grow (skip h) = order.transitive _ _ _ (sub_cost mono grow h) (grow.last _ _)
     sub_cost mono grow (keep h) = mono.before _ _ _ (sub_cost mono grow h)
-
-    pub least_unique : (P : List Arc → Type 0) (o p : Option C) → LeastOf s g P o → LeastOf s g P p → o ≡ p
-    least_unique P None None h k = refl
-    least_unique P None (Some y) h k = absurd (h k.0.0 k.0.1)
-    least_unique P (Some x) None h k = absurd (k h.0.0 h.0.1)
-    least_unique P (Some x) (Some y) h k =
-        ap Some (order.antisymmetric x y (rw k.0.2 at (h.1 k.0.0 k.0.1)) (rw h.0.2 at (k.1 h.0.0 h.0.1)))
 
     -- of the lists in Q, those in P are enough
     pub same_least : (P Q : List Arc → Type 0) → ((w : List Arc) → P w → Q w)
@@ -53,3 +48,12 @@ module _ {C : Type 0} {s : Scale C} (order : Ordered s) where
     pub cheapest_least : (ws : List (List Arc)) → LeastOf s g (λ w. In w ws) (cheapest s (map (cost s g) ws))
     cheapest_least [] = λ w i. i
     cheapest_least (w ∷ ws) = one_more w ws (cheapest s (map (cost s g) ws)) (cheapest_least ws)
+
+-- there is one least total at most
+pub one_least : {C : Type 0} (s : Scale C) → EquallyDear s → OneLeast s
+unfolding EquallyDear OneLeast
+one_least s same g a b None None h k = refl
+one_least s same g a b None (Some y) h k = absurd (h k.0.0 k.0.1)
+one_least s same g a b (Some x) None h k = absurd (k h.0.0 h.0.1)
+one_least s same g a b (Some x) (Some y) h k =
+    ap Some (same x y (rw k.0.2 at (h.1 k.0.0 k.0.1)) (rw h.0.2 at (k.1 h.0.0 h.0.1)))

@@ -8,6 +8,9 @@ use Rattle.roads.specs.RoadLists.{has, distinct}
 use Rattle.roads.proofs.Leaving.{distinct_parts}
 use Rattle.walks.specs.declared.arcs.Arc.{Arc}
 use Rattle.walks.specs.Digraphs.{Digraph, Sound, Walk, visits}
+use Rattle.charge.specs.Scales.{Scale}
+use Rattle.least_walks.specs.Theorems.{SimpleWalks}
+use Rattle.least_walks.specs.Steps.{DistinctAreFew}
 
 -- how many of the numbers below n are not in a list
 abbrev room : List ℕ → ℕ → ℕ
@@ -34,12 +37,16 @@ pigeons n (x ∷ xs) (h, hs) k =
     let less = room_less x xs parts.0 n in
     grind (arith, nat_tests)
 
+pub few : DistinctAreFew
+unfolding DistinctAreFew
+few n xs h k = omega (arith, pigeons n xs h k)
+
 module _ {C : Type 0} (g : Digraph C) (sound : Sound g) where
   heads_below : (a b : ℕ) (w : List Arc) → Walk g a w b → AllByRecursion (λ x. x < g.places) (map (λ r. r.head) w)
   heads_below a b [] k = tt
   heads_below a b (r ∷ w) (i, k) = (sound.heads a r i, heads_below r.head b w k)
 
-  pub simple_short : (a b : ℕ) (w : List Arc) → a < g.places → Walk g a w b
-      → distinct (visits a w) ≡ true → length w < g.places
-  simple_short a b w lt k d =
-      omega (arith, simp length-map at (pigeons g.places (visits a w) (lt, heads_below a b w k) d))
+pub simple_short : {C : Type 0} (s : Scale C) → DistinctAreFew → SimpleWalks s
+unfolding DistinctAreFew SimpleWalks
+simple_short s rare g sound a b w lt k d =
+    omega (arith, simp length-map at (rare g.places (visits a w) (lt, heads_below g sound a b w k) d))

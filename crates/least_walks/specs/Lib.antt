@@ -1,2 +1,3 @@
 pub mod Theorems
 pub mod Example
+pub mod Steps
